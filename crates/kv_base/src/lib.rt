@@ -4,6 +4,8 @@
 mod copied;
 mod sequence;
 mod stack;
+#[cfg(test)]
+mod tests;
 
 pub use copied::Copied;
 pub use sequence::Sequence;
