@@ -1,5 +1,7 @@
-ghost use Rattle.std.specs.Prelude.{◌≡◌, ◌≤◌, [], Some};
+ghost use Rattle.std.specs.Prelude.{◌≡◌, ◌-◌, ◌≤◌, [], Some, length, min, MatchOption};
+ghost use Rattle.std.specs.Option.{ForSome};
 
+use crate::causes::raise;
 use crate::{Fault, Sink};
 use kv_base::Sequence;
 use std::alloc::Global;
@@ -11,52 +13,57 @@ pub type CallNumbers = Sequence<u32>;
 #[derive(Drop)]
 pub struct MemSink {
     held: Vec<u8>,
+    // the most bytes that it takes in all
+    limit: Option<usize>,
     failing: CallNumbers,
-    room: Option<usize>,
     calls: u32,
     faults: u64,
+    ghost within_limit: { ForSome limit (λ n. length held.items ≤ n) },
 }
 
 impl MemSink {
     /// A sink whose writes of these numbers fail.
-    pub fn new(alloc: Global, failing: CallNumbers) -> Self
-        ensures { ⟦<MemSink as Sink>⟧.told result ≡ Some [] }
+    pub fn new(alloc: Global, failing: CallNumbers) -> MemSink
+        ensures told { ⟦<MemSink as Sink>⟧.told result ≡ Some [] }
+        ensures faults { ⟦<MemSink as Sink>⟧.faults result ≡ 0 }
     {
         MemSink {
             held: Vec::new(alloc),
+            limit: None,
             failing,
-            room: None,
             calls: 0,
             faults: 0,
         }
     }
 
     /// A sink that takes n bytes in all, and then fails.
-    pub fn limited(alloc: Global, n: usize) -> Self
-        ensures { ⟦<MemSink as Sink>⟧.told result ≡ Some [] }
+    pub fn limited(alloc: Global, n: usize) -> MemSink
+        ensures told { ⟦<MemSink as Sink>⟧.told result ≡ Some [] }
+        ensures faults { ⟦<MemSink as Sink>⟧.faults result ≡ 0 }
     {
         MemSink {
             held: Vec::new(alloc),
+            limit: Some(n),
             failing: Sequence::new(alloc),
-            room: Some(n),
             calls: 0,
             faults: 0,
         }
     }
 
+    /// The bytes that it holds.
     pub fn bytes(&self) -> &[u8]
         ensures { ⟦<MemSink as Sink>⟧.told self.now ≡ Some result.now }
     {
         self.held.as_slice()
     }
 
-    // How many of so many bytes the next write takes.
+    // How many of so many bytes there is room for.
     fn taken(&self, wanted: usize) -> usize
-        ensures { result ≤ wanted }
+        ensures { MatchOption self.now.limit (result ≡ wanted) (λ n. result ≡ min wanted (n - length self.now.held.items)) }
     {
-        match self.room {
+        match self.limit {
             None => wanted,
-            Some(room) => wanted.min(room.saturating_sub(self.held.len())),
+            Some(n) => wanted.min(n - self.held.len()),
         }
     }
 }
@@ -69,12 +76,12 @@ impl Sink for MemSink {
     fn write(&mut self, bytes: &[u8]) -> Result<usize, Fault> {
         self.calls = self.calls.saturating_add(1);
         let count = self.taken(bytes.len());
-        if !self.failing.as_slice().contains(&self.calls) && (0 < count || bytes.is_empty()) {
+        let is_taken = 0 < count || bytes.is_empty();
+        if is_taken && !self.failing.as_slice().contains(&self.calls) {
             if self.held.extend_from_slice(&bytes[..count]).is_ok() {
                 return Ok(count);
             }
         }
-        self.faults = self.faults.saturating_add(1);
-        Err(Fault)
+        Err(raise(&mut self.faults))
     }
 }
