@@ -39,7 +39,11 @@ impl<'p> Model for Machine<'p> {
 
 impl<'p> Machine<'p> {
     /// The configuration in which a run begins.
-    pub fn start(alloc: Global, program: &'p Program, inputs: &'p [u64]) -> Result<Machine<'p>, NoMemory>
+    pub fn start(
+        alloc: Global,
+        program: &'p Program,
+        inputs: &'p [u64],
+    ) -> Result<Machine<'p>, NoMemory>
         ensures { IfOk result (λ machine. machine ≡ spec.start program.now inputs.now) }
     {
         let mut control = Stack::new(alloc);
@@ -109,7 +113,11 @@ impl<'p> Machine<'p> {
         }
     }
 
-    fn work_step(&mut self, item: &'p BlockItem, found: Sequence<i32>) -> Result<Option<RunEnd>, NoMemory>
+    fn work_step(
+        &mut self,
+        item: &'p BlockItem,
+        found: Sequence<i32>,
+    ) -> Result<Option<RunEnd>, NoMemory>
         ensures { Steps (spec.work_step item.now found self.old) result self.new }
     {
         match item {
@@ -136,10 +144,8 @@ impl<'p> Machine<'p> {
                     if holds(*relation, *v, *w) {
                         Ok(None)
                     } else {
-                        Ok(Some(RunEnd::Broken {
-                            check: CheckKind::Assertion,
-                            line: *line,
-                        }))
+                        let (check, line) = (CheckKind::Assertion, *line);
+                        Ok(Some(RunEnd::Broken { check, line }))
                     }
                 }
             },
