@@ -1,1 +1,2 @@
 pub mod EarlyTokens
+pub mod EarlyGrammar

@@ -1,5 +1,6 @@
 //! The reader of straight programs: tokens, then the grammar, then the names.
 
+mod syntax;
 mod tokens;
 
 use kv_base::NoMemory;
