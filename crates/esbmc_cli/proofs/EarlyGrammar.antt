@@ -1,5 +1,5 @@
 -- What is taken from the front of the tokens, one part after another.
-use Rattle.std.proofs.Common.{◌≡◌, ◌≢◌, ℕ, ◌<◌, ◌≤◌, ◌^◌, ◌-◌, true, nat_eq, take, drop, List, [], ◌∷◌, ◌++◌, length, get_or, map, refl, sym, ap, subst, ◌∙◌, arith, rules, append_assoc, Result, Ok, Err, OnOk}
+use Rattle.std.proofs.Common.{◌≡◌, ◌≢◌, ℕ, ◌<◌, ◌≤◌, ◌^◌, ◌-◌, true, nat_eq, take, drop, List, [], ◌∷◌, ◌++◌, length, get_or, map, refl, sym, ap, subst, ◌∙◌, arith, rules, append_assoc, Result, Ok, Err, OnOk, IfOk, Some, slice_get}
 use Rattle.std.specs.Fmt.{decimal}
 use Rattle.std.specs.Str.Parse.{AllDigits, IsNumeral, digits_value, without_leading_plus}
 use Rattle.std.specs.Cmp.Lexicographic.{pointwise}
@@ -72,6 +72,14 @@ reads_item item lexeme before rest after e line reads = from reads.own reads.all
     from (first ∷ own) all spelled =
         let same : first ≡ lexeme = cc in
         record { own = first ∷ own; all = all; is = record { first = token_of first; rest = seen own; begins = refl; line = line ∙ ap (λ l. (token_of l).line) (sym same); spelled = spelled } }
+
+pub begins_item : {E : Type 0} (r : Result BlockItem E) (first : Lexeme) (before after : List Lexeme) → Some first ≡ slice_get before 0 → IfOk r (λ item. line_of item ≡ (token_of first).line)
+    → IfOk r (λ item. Reads (item_texts item) before after) → IfOk r (λ item. ReadsItem item before after)
+begins_item (Err e) first before after at line reads = tt
+begins_item (Ok item) first [] after at line reads = absurd (cc)
+begins_item (Ok item) first (lexeme ∷ rest) after at line reads =
+    let same : first ≡ lexeme = cc in
+    reads_item item lexeme (lexeme ∷ rest) rest after refl (line ∙ ap (λ l. (token_of l).line) same) reads
 
 are_items-push : (tokens last : List Token) (items : List BlockItem) (item : BlockItem) → AreItems tokens items → IsItem last item → AreItems (tokens ++ last) (items ++ item ∷ [])
 are_items-push tokens last [] item are is = (last, [], ap (λ ts. ts ++ last) are ∙ sym (append-nil last), is, refl)

@@ -1,2 +1,3 @@
 pub mod EarlyTokens
 pub mod EarlyGrammar
+pub mod EarlyNames

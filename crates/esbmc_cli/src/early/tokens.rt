@@ -26,7 +26,8 @@ fn blank(c: u8) -> bool
     matches!(c, b' ' | b'\t' | b'\n')
 }
 
-fn word_byte(c: u8) -> bool
+/// Whether words may have this byte.
+pub fn word_byte(c: u8) -> bool
     ensures { result ≡ is_word_byte c }
 {
     c.is_ascii_alphanumeric() || c == b'_'
