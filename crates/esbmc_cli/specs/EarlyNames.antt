@@ -1,0 +1,15 @@
+-- The names that the reader of straight programs has in scope.
+use Rattle.std.specs.Prelude.{ℕ, List, ◌∷◌, map, reverse}
+use Rattle.c_model.specs.declared.program.BlockItem.{BlockItem}
+use Rattle.c_model.specs.declared.program.BlockItem.TheVariants.{Declare, Assign, Assert}
+use denote.Ref.{Bor}
+
+-- the names in scope, the last declared first
+abbrev pub in_scope : List (Bor (List ℕ)) → List (List ℕ)
+in_scope names = reverse (map (λ name. name.now) names)
+
+-- the names in scope after an item
+abbrev pub scope_after : List (List ℕ) → BlockItem → List (List ℕ)
+scope_after names (Declare name value line) = name ∷ names
+scope_after names (Assign name value line) = names
+scope_after names (Assert relation left right line) = names
