@@ -1,4 +1,4 @@
-ghost use Rattle.std.specs.Prelude.{◌≡◌, ◌<◌, false, Some, None, is_some, length, MatchOption};
+ghost use Rattle.std.specs.Prelude.{◌≡◌, ◌<◌, [], false, Some, None, is_some, length, MatchOption};
 ghost use Rattle.std.specs.Option.{ForSome, ForNone};
 
 use crate::calls::Calls;
@@ -26,8 +26,8 @@ pub struct MemFiles {
 }
 
 impl MemFiles {
-    ghost use Rattle.kv_port.specs.MemFiles.{folder_of, told_of};
-    ghost use Rattle.kv_port.specs.MadeFiles.{failing_of, piece_of, endless_of};
+    ghost use Rattle.std.specs.FinMap.{get};
+    ghost use Rattle.kv_port.specs.MemFiles.{folder_of, told_of, failing_of, piece_of, endless_of};
 
     /// A folder of these files, in which these calls fail.
     pub fn new(alloc: Global, files: NamedFiles, failing: Failures) -> MemFiles
@@ -36,6 +36,7 @@ impl MemFiles {
         ensures is_created { ⟦<MemFiles as Files>⟧.is_created result ≡ false }
         ensures faults { ⟦<MemFiles as Files>⟧.faults result ≡ 0 }
         ensures failing { failing_of result ≡ failing }
+        ensures piece { piece_of result ≡ usize.MAX }
     {
         MemFiles::holding(alloc, files, None, usize::MAX, failing)
     }
@@ -48,6 +49,7 @@ impl MemFiles {
         ensures is_created { ⟦<MemFiles as Files>⟧.is_created result ≡ false }
         ensures faults { ⟦<MemFiles as Files>⟧.faults result ≡ 0 }
         ensures piece { piece_of result ≡ n }
+        ensures failing { failing_of result ≡ [] }
     {
         MemFiles::holding(alloc, files, None, n, Sequence::new(alloc))
     }
@@ -59,6 +61,7 @@ impl MemFiles {
         ensures is_created { ⟦<MemFiles as Files>⟧.is_created result ≡ false }
         ensures faults { ⟦<MemFiles as Files>⟧.faults result ≡ 0 }
         ensures byte { endless_of result ≡ Some byte }
+        ensures failing { failing_of result ≡ [] }
     {
         let (files, failing) = (Sequence::new(alloc), Sequence::new(alloc));
         MemFiles::holding(alloc, files, Some(byte), usize::MAX, failing)
@@ -102,10 +105,9 @@ impl MemFiles {
     }
 }
 
-ghost use Rattle.std.specs.FinMap.{get};
-ghost use Rattle.kv_port.specs.MemFiles.{told_of, told_left};
-
 impl Files for MemFiles {
+    ghost use Rattle.kv_port.specs.MemFiles.{told_of, told_left};
+
     ghost told = { λ m. told_of m.endless m.files.items };
 
     ghost left = { λ m. told_left m.endless m.files.items m.reading };
