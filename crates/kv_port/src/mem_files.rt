@@ -1,45 +1,12 @@
-ghost use Rattle.std.specs.Prelude.{◌≡◌, ◌<◌, ◌≤◌, ◌+◌, ◌-◌, ◌^◌, ◌↔◌, min, IsTrue, true, false, Some, None, is_some, length, MatchOption};
+ghost use Rattle.std.specs.Prelude.{◌≡◌, ◌<◌, [], false, Some, None, is_some, length, MatchOption};
 ghost use Rattle.std.specs.Option.{ForSome, ForNone};
 
+use crate::calls::Calls;
 use crate::causes::raise;
 use crate::named_files::{Place, append, begin, content, create, read_on};
-use crate::{Fault, Files, NamedFile, NamedFiles};
-use kv_base::{Bytes, Copied, NoMemory, Sequence};
+use crate::{Call, Failures, Fault, Files, NamedFile, NamedFiles};
+use kv_base::{Bytes, Sequence};
 use std::alloc::Global;
-
-/// A method of `Files`.
-#[derive(Clone, Copy, Debug, PartialEq, Eq)]
-pub enum Call {
-    Open,
-    Read,
-    Create,
-    Write,
-}
-
-/// The call of this number of one method, counted from 1, fails.
-#[derive(Clone, Copy, Debug, PartialEq, Eq)]
-pub struct Failing {
-    pub call: Call,
-    pub number: u32,
-}
-
-/// The calls that fail.
-pub type Failures = Sequence<Failing>;
-
-impl Copied for Failing {
-    fn copy(&self, _alloc: Global) -> Result<Failing, NoMemory> {
-        Ok(*self)
-    }
-}
-
-/// How many calls of each method there were.
-#[derive(Clone, Copy, Debug, PartialEq, Eq)]
-struct Calls {
-    open: u32,
-    read: u32,
-    create: u32,
-    write: u32,
-}
 
 /// A folder in memory, which tells its files.
 #[derive(Drop)]
@@ -50,7 +17,6 @@ pub struct MemFiles {
     endless: Option<u8>,
     // the most bytes that a read gives
     piece: usize,
-    failing: Failures,
     calls: Calls,
     reading: Option<Place>,
     writing: Option<Bytes>,
@@ -60,7 +26,8 @@ pub struct MemFiles {
 }
 
 impl MemFiles {
-    ghost use Rattle.kv_port.specs.MemFiles.{folder_of, told_of};
+    ghost use Rattle.std.specs.FinMap.{get};
+    ghost use Rattle.kv_port.specs.MemFiles.{folder_of, told_of, failing_of, piece_of, endless_of};
 
     /// A folder of these files, in which these calls fail.
     pub fn new(alloc: Global, files: NamedFiles, failing: Failures) -> MemFiles
@@ -68,6 +35,8 @@ impl MemFiles {
         ensures is_open { ⟦<MemFiles as Files>⟧.is_open result ≡ false }
         ensures is_created { ⟦<MemFiles as Files>⟧.is_created result ≡ false }
         ensures faults { ⟦<MemFiles as Files>⟧.faults result ≡ 0 }
+        ensures failing { failing_of result ≡ failing }
+        ensures piece { piece_of result ≡ usize.MAX }
     {
         MemFiles::holding(alloc, files, None, usize::MAX, failing)
     }
@@ -79,6 +48,8 @@ impl MemFiles {
         ensures is_open { ⟦<MemFiles as Files>⟧.is_open result ≡ false }
         ensures is_created { ⟦<MemFiles as Files>⟧.is_created result ≡ false }
         ensures faults { ⟦<MemFiles as Files>⟧.faults result ≡ 0 }
+        ensures piece { piece_of result ≡ n }
+        ensures failing { failing_of result ≡ [] }
     {
         MemFiles::holding(alloc, files, None, n, Sequence::new(alloc))
     }
@@ -89,6 +60,8 @@ impl MemFiles {
         ensures is_open { ⟦<MemFiles as Files>⟧.is_open result ≡ false }
         ensures is_created { ⟦<MemFiles as Files>⟧.is_created result ≡ false }
         ensures faults { ⟦<MemFiles as Files>⟧.faults result ≡ 0 }
+        ensures byte { endless_of result ≡ Some byte }
+        ensures failing { failing_of result ≡ [] }
     {
         let (files, failing) = (Sequence::new(alloc), Sequence::new(alloc));
         MemFiles::holding(alloc, files, Some(byte), usize::MAX, failing)
@@ -115,21 +88,16 @@ impl MemFiles {
         ensures is_open { ⟦<MemFiles as Files>⟧.is_open result ≡ false }
         ensures is_created { ⟦<MemFiles as Files>⟧.is_created result ≡ false }
         ensures faults { ⟦<MemFiles as Files>⟧.faults result ≡ 0 }
-        ensures piece { result.piece ≡ piece }
-        ensures failing { result.failing ≡ failing }
+        ensures endless { endless_of result ≡ endless }
+        ensures piece { piece_of result ≡ piece }
+        ensures failing { failing_of result ≡ failing }
     {
         MemFiles {
             alloc,
             files: files.into_vec(),
             endless,
             piece,
-            failing,
-            calls: Calls {
-                open: 0,
-                read: 0,
-                create: 0,
-                write: 0,
-            },
+            calls: Calls::new(failing),
             reading: None,
             writing: None,
             faults: 0,
@@ -137,18 +105,9 @@ impl MemFiles {
     }
 }
 
-ghost use Rattle.std.specs.Prelude.{Contains};
-ghost use Rattle.std.specs.FinMap.{get};
-ghost use Rattle.kv_port.specs.MemFiles.{told_of, told_left};
-
-// Whether this call is one of those that fail.
-fn fails(failing: &[Failing], call: Call, number: u32) -> bool
-    ensures { IsTrue result ↔ Contains failing.now (record { call = call; number = number }) }
-{
-    failing.contains(&Failing { call, number })
-}
-
 impl Files for MemFiles {
+    ghost use Rattle.kv_port.specs.MemFiles.{told_of, told_left};
+
     ghost told = { λ m. told_of m.endless m.files.items };
 
     ghost left = { λ m. told_left m.endless m.files.items m.reading };
@@ -163,8 +122,7 @@ impl Files for MemFiles {
 
     fn open(&mut self, name: &str) -> Result<bool, Fault> {
         self.reading = None;
-        self.calls.open = self.calls.open.saturating_add(1);
-        if fails(self.failing.as_slice(), Call::Open, self.calls.open) {
+        if self.calls.fails(Call::Open) {
             return Err(raise(&mut self.faults));
         }
         self.reading = match self.endless {
@@ -175,8 +133,7 @@ impl Files for MemFiles {
     }
 
     fn read(&mut self, buf: &mut [u8]) -> Result<usize, Fault> {
-        self.calls.read = self.calls.read.saturating_add(1);
-        if fails(self.failing.as_slice(), Call::Read, self.calls.read) {
+        if self.calls.fails(Call::Read) {
             return Err(raise(&mut self.faults));
         }
         if let Some(byte) = self.endless {
@@ -194,8 +151,7 @@ impl Files for MemFiles {
     }
 
     fn create(&mut self, name: &str) -> Result<(), Fault> {
-        self.calls.create = self.calls.create.saturating_add(1);
-        if fails(self.failing.as_slice(), Call::Create, self.calls.create) {
+        if self.calls.fails(Call::Create) {
             return Err(raise(&mut self.faults));
         }
         match create(self.alloc, &mut self.files, name.as_bytes()) {
@@ -208,8 +164,7 @@ impl Files for MemFiles {
     }
 
     fn write(&mut self, bytes: &[u8]) -> Result<usize, Fault> {
-        self.calls.write = self.calls.write.saturating_add(1);
-        if fails(self.failing.as_slice(), Call::Write, self.calls.write) {
+        if self.calls.fails(Call::Write) {
             return Err(raise(&mut self.faults));
         }
         match &self.writing {

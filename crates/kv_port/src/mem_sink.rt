@@ -1,4 +1,4 @@
-ghost use Rattle.std.specs.Prelude.{◌≡◌, ◌-◌, ◌≤◌, [], Some, length, min, MatchOption};
+ghost use Rattle.std.specs.Prelude.{◌≡◌, ◌-◌, ◌≤◌, [], None, Some, length, min, MatchOption};
 ghost use Rattle.std.specs.Option.{ForSome};
 
 use crate::causes::raise;
@@ -22,10 +22,14 @@ pub struct MemSink {
 }
 
 impl MemSink {
+    ghost use Rattle.kv_port.specs.MemSink.{limit_of, failing_of};
+
     /// A sink whose writes of these numbers fail.
     pub fn new(alloc: Global, failing: CallNumbers) -> MemSink
         ensures told { ⟦<MemSink as Sink>⟧.told result ≡ Some [] }
         ensures faults { ⟦<MemSink as Sink>⟧.faults result ≡ 0 }
+        ensures limit { limit_of result ≡ None }
+        ensures failing { failing_of result ≡ failing }
     {
         MemSink {
             held: Vec::new(alloc),
@@ -40,6 +44,8 @@ impl MemSink {
     pub fn limited(alloc: Global, n: usize) -> MemSink
         ensures told { ⟦<MemSink as Sink>⟧.told result ≡ Some [] }
         ensures faults { ⟦<MemSink as Sink>⟧.faults result ≡ 0 }
+        ensures limit { limit_of result ≡ Some n }
+        ensures failing { failing_of result ≡ [] }
     {
         MemSink {
             held: Vec::new(alloc),
@@ -52,7 +58,8 @@ impl MemSink {
 
     /// The bytes that it holds.
     pub fn bytes(&self) -> &[u8]
-        ensures { ⟦<MemSink as Sink>⟧.told self.now ≡ Some result.now }
+        ensures told { ⟦<MemSink as Sink>⟧.told self.now ≡ Some result.now }
+        ensures within { ForSome (limit_of self.now) (λ n. length result.now ≤ n) }
     {
         self.held.as_slice()
     }
