@@ -67,14 +67,15 @@ value_of name store = number_in (find (is_named name) store)
 abbrev pub place_of : List ℕ → List Object → Option ℕ
 place_of name store = position (is_named name) store
 
+-- a name or a constant (6.5.1)
 abbrev pub operand_value : Operand → List Object → ℤ
 operand_value (Name name) store = value_of name store
 operand_value (Number value) store = wrap_of Int (pos value)
 
--- a sum or difference, wrapped to an int (6.5.6)
-abbrev pub signed : Sign → ℤ → ℤ → ℤ
-signed Plus v w = wrap_of Int (v +ℤ w)
-signed Minus v w = wrap_of Int (v -ℤ w)
+-- the result of an additive operator on ints (6.5.6). It wraps: no overflow is checked, and 6.5p5 leaves it open
+abbrev pub result_of : Sign → ℤ → ℤ → ℤ
+result_of Plus v w = wrap_of Int (v +ℤ w)
+result_of Minus v w = wrap_of Int (v -ℤ w)
 
 -- whether a comparison gives 1 (6.5.9p3)
 abbrev pub holds : Relation → ℤ → ℤ → Bool
@@ -103,7 +104,8 @@ gives v c = Next (record c { control = give v c.control })
 abbrev pub asks : Sum → Item → Configuration → Answer
 asks sum item c = Next (put (Value sum) (put item c))
 
--- a new object lives, and holds the value of its initializer (6.7.9)
+-- a new object lives, and holds the value of its initializer (6.7.9p11). By 6.2.4p6 it lives from the beginning
+-- of its block; nothing before its declaration can name it (6.2.1p7)
 abbrev pub declares : List ℕ → ℤ → Configuration → Configuration
 declares name v c = record c { store = c.store ++ record { name = name; value = v } ∷ [] }
 
@@ -115,7 +117,8 @@ store_at (Some place) name v c = record c { store = slice_set c.store place (rec
 abbrev pub assigns : List ℕ → ℤ → Configuration → Configuration
 assigns name v c = store_at (place_of name c.store) name v c
 
--- an item evaluates its sums from left to right, and then takes effect
+-- an item evaluates its sums from left to right, and then takes effect; an assertion is met where its comparison
+-- gives 1 (7.2.1.1p2)
 abbrev pub work_step : BlockItem → List ℤ → Configuration → Answer
 work_step (Declare name value line) [] c = asks value (Tests (Declare name value line) []) c
 work_step (Declare name value line) (v ∷ _) c = Next (declares name v c)
@@ -133,7 +136,7 @@ item_step (Work item found) c = work_step item found c
 item_step (Tests item found) c = Ended
 item_step (Value sum) c = Next (put (Adds (operand_value sum.first c.store) sum.rest) c)
 item_step (Adds value []) c = gives value c
-item_step (Adds value (addend ∷ left)) c = Next (put (Adds (signed addend.sign value (operand_value addend.operand c.store)) left) c)
+item_step (Adds value (addend ∷ left)) c = Next (put (Adds (result_of addend.sign value (operand_value addend.operand c.store)) left) c)
 
 abbrev pub step_at : List Item → Configuration → Answer
 step_at [] c = Ended

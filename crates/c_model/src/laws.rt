@@ -1,6 +1,6 @@
 ghost use Rattle.std.specs.Prelude.{◌≡◌, ℕ, List, []};
 ghost use Rattle.c_model.specs.declared.program.Program.{Program};
-ghost use Rattle.c_model.specs.Machine.{Answer, IsEnd, Comes, Safe};
+ghost use Rattle.c_model.specs.Machine.{Configuration, Answer, IsEnd, step, Comes, Safe};
 
 /// An execution has at most one end.
 pub fn has_one_end()
@@ -10,6 +10,11 @@ pub fn has_one_end()
 /// Every execution of a straight program ends.
 pub fn always_ends()
     ensures { (program : Program) (inputs : List ℕ) → (a : Answer) × IsEnd a × Comes program inputs a }
+{}
+
+/// An execution ends only where no item is left on the control stack.
+pub fn ends_with_nothing_left()
+    ensures { (program : Program) (inputs : List ℕ) (c : Configuration) → Comes program inputs (Answer.Next c) → step c ≡ Answer.Ended → c.control ≡ [] }
 {}
 
 /// A straight program asks for no input, so it ends alike on all lists of inputs.

@@ -7,7 +7,7 @@ ghost use Rattle.c_replay.specs.View.{item_of};
 
 use crate::control::{Entry, Waiting, handed};
 use crate::run::RunEnd;
-use crate::values::{Object, holds, operand_value, place_of, signed};
+use crate::values::{Object, holds, operand_value, place_of, result_of};
 use c_model::{Addend, BlockItem, CheckKind, Program, Sum};
 use kv_base::{Bytes, NoMemory, Sequence, Stack};
 use std::alloc::Global;
@@ -174,7 +174,7 @@ impl<'p> Machine<'p> {
             [] => self.gives(value),
             [addend, left @ ..] => {
                 let operand = operand_value(&addend.operand, self.store.as_slice());
-                self.put(Waiting::Adds(signed(addend.sign, value, operand), left))
+                self.put(Waiting::Adds(result_of(addend.sign, value, operand), left))
             }
         }
     }

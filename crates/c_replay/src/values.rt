@@ -74,17 +74,17 @@ pub fn operand_value(operand: &Operand, store: &[Object<'_>]) -> i32
     }
 }
 
-/// A sum or difference, wrapped to an int.
-pub fn signed(sign: Sign, v: i32, w: i32) -> i32
-    ensures { result ≡ spec.signed sign v w }
+/// The result of an additive operator, wrapped to an int.
+pub fn result_of(sign: Sign, v: i32, w: i32) -> i32
+    ensures { result ≡ spec.result_of sign v w }
 {
     let v = i128::from(v);
     let w = i128::from(w);
-    let exact = match sign {
+    let number = match sign {
         Sign::Plus => add(IntType::Int, v, w),
         Sign::Minus => sub(IntType::Int, v, w),
     };
-    int_of(exact.value)
+    int_of(number.value)
 }
 
 /// Whether a comparison gives 1.
