@@ -1,5 +1,5 @@
 -- What is taken from the front of the tokens, one part after another.
-use Rattle.std.proofs.Common.{◌≡◌, ◌≢◌, ℕ, ◌<◌, ◌≤◌, ◌^◌, ◌-◌, true, nat_eq, take, drop, List, [], ◌∷◌, ◌++◌, length, get_or, map, refl, sym, ap, subst, ◌∙◌, arith, rules, append_assoc, Result, Ok, Err, OnOk, IfOk, Some, slice_get}
+use Rattle.std.proofs.Common.{◌≡◌, ℕ, ◌<◌, ◌≤◌, ◌^◌, ◌-◌, true, nat_eq, take, drop, List, [], ◌∷◌, ◌++◌, length, get_or, refl, sym, ap, subst, ◌∙◌, arith, append_assoc, Result, Ok, Err, OnOk, IfOk, Some, slice_get}
 use Rattle.std.specs.Fmt.{decimal}
 use Rattle.std.specs.Str.Parse.{AllDigits, IsNumeral, digits_value, without_leading_plus}
 use Rattle.std.specs.Cmp.Lexicographic.{pointwise}
@@ -11,11 +11,11 @@ use Rattle.std.proofs.lemmas.Str.Parse.{IsNumeralModel, numerals_by_value, tells
 use Rattle.c_model.specs.declared.program.Addend.{Addend}
 use Rattle.c_model.specs.declared.program.BlockItem.{BlockItem}
 use Rattle.c_model.specs.declared.program.BlockItem.TheVariants.{Declare, Assign, Assert}
-use Rattle.c_model.specs.Tokens.{Token, Divides}
+use Rattle.c_model.specs.Tokens.{Token}
 use Rattle.c_model.specs.Early.{sign_text, operand_text, addend_texts, item_texts, line_of, texts, IsItem, AreItems}
 use Rattle.esbmc_cli.specs.declared.early.tokens.Lexeme.{Lexeme}
 use Rattle.esbmc_cli.specs.EarlyTokens.{token_of, seen}
-use Rattle.esbmc_cli.specs.EarlyGrammar.{Reads, ReadsItem, ReadsItems, ReadsProgram, IsPlain}
+use Rattle.esbmc_cli.specs.EarlyGrammar.{Reads, ReadsItem, ReadsItems, IsPlain}
 
 pub reads_one : (text : List ℕ) (lexeme : Lexeme) (before after : List Lexeme) → before ≡ lexeme ∷ after → (token_of lexeme).text ≡ text → Reads (text ∷ []) before after
 reads_one text lexeme before after e same = record { own = lexeme ∷ []; all = e; spelled = ap (λ t. t ∷ []) same }
@@ -117,6 +117,7 @@ plain_number text digits value plain same parsed = from (subst P (ap without_lea
   where
     P : List ℕ → Type 0
     P ds = (IsNumeral 10 ds × (digits_value 10 ds < 2 ^ 32)) × (value ≡ digits_value 10 ds)
+
     from : P text → text ≡ decimal value
     from is = sym (ap decimal is.1 ∙ decimal-digits_value own text is.0.0.1 plain.some plain.zero (omega (arith, is.0.1)))
 

@@ -1,5 +1,5 @@
 -- What is in scope.
-use Rattle.std.proofs.Common.{◌≡◌, ◌↔◌, ◌⊎◌, ℕ, Bool, true, false, ◌||◌, IsTrue, nat_eq, List, [], ◌∷◌, ◌++◌, map, reverse, Contains, refl, sym, ap, subst, ◌∙◌, inl, inr, arith, rules, Bor}
+use Rattle.std.proofs.Common.{◌≡◌, ◌↔◌, ℕ, Bool, true, false, ◌||◌, IsTrue, nat_eq, List, [], ◌∷◌, ◌++◌, map, reverse, Contains, refl, sym, ap, subst, ◌∙◌, inl, inr, arith, Bor}
 use Rattle.std.specs.Bool.{OnTrue}
 use Rattle.std.specs.List.{list_any}
 use Rattle.std.specs.Cmp.Lexicographic.{pointwise}
@@ -17,10 +17,10 @@ contains_reversed [] y has = absurd (omega (arith, has.1))
 contains_reversed (x ∷ xs) y has =
     let P : List (List ℕ) → Type 0 = λ zs. Contains zs y in
     let both : Contains (reverse xs ++ x ∷ []) y =
-        elim (Contains-append_cases (x ∷ []) xs y has) [
-          inl here ↦ Contains-append_right (reverse xs) (x ∷ []) y here
-        | inr later ↦ Contains-append_left (reverse xs) (x ∷ []) y (contains_reversed xs y later)
-        ] in
+    elim (Contains-append_cases (x ∷ []) xs y has) [
+      | inl here ↦ Contains-append_right (reverse xs) (x ∷ []) y here
+      | inr later ↦ Contains-append_left (reverse xs) (x ∷ []) y (contains_reversed xs y later)
+    ] in
     subst P (sym (reverse-append (x ∷ []) xs)) both
 
 same_any : (names : List (Bor (List ℕ))) (name : List ℕ) → list_any (λ word. pointwise nat_eq word.now name) names ≡ list_any (λ word. pointwise nat_eq word name) (map (λ word. word.now) names)
@@ -41,8 +41,10 @@ declares_new names item text name value line right is same named new operands = 
   where
     P : BlockItem → Type 0
     P it = (later : List BlockItem) → AreScoped (scope_after names it) later → AreScoped names (it ∷ later)
+
     Q : List ℕ → Type 0
     Q t = IsName t × (Contains names t → ⊥)
+
     go : (b : Bool) → OnTrue b (AreOperands names value) → OnTrue b (P item)
     go false h = tt
     go true h = let both = subst Q same (named, new) in subst P (sym is) (λ later scoped. (both.0, both.1, h, scoped))

@@ -1,15 +1,14 @@
 -- Tokens: what is in a table, and that the first longest piece is one.
-use Rattle.std.proofs.Common.{◌≡◌, ◌≢◌, ◌↔◌, ◌⊎◌, ℕ, ◌+◌, ◌<◌, ◌≤◌, Bool, true, false, ◌||◌, ◌==◌, IsTrue, nat_eq, List, [], ◌∷◌, ◌++◌, length, get_or, take, drop, map, Contains, All, Option, None, Some, refl, sym, ap, subst, ◌∙◌, inl, inr, arith, rules, append_assoc}
-use Rattle.std.specs.List.{list_any, prefix_len, AllPass}
+use Rattle.std.proofs.Common.{◌≡◌, ◌≢◌, ◌↔◌, ℕ, ◌+◌, ◌<◌, ◌≤◌, Bool, true, false, ◌==◌, IsTrue, nat_eq, List, [], ◌∷◌, ◌++◌, length, get_or, take, drop, Contains, All, refl, sym, ap, subst, ◌∙◌, inl, inr, arith, append_assoc}
+use Rattle.std.specs.List.{list_any, prefix_len}
 use Rattle.std.specs.Bool.{Decides}
 use Rattle.std.specs.Cmp.Lexicographic.{pointwise}
-use Rattle.std.proofs.lemmas.Bool.Decides.{Decides-by_or, Decides-eqb}
-use Rattle.std.proofs.lemmas.Bool.{false≢true}
+use Rattle.std.proofs.lemmas.Bool.Decides.{Decides-by_or}
 use Rattle.std.proofs.lemmas.Slice.Eq.{bytes_eq-Decides}
 use Rattle.std.proofs.lemmas.List.{get_or-take, get_or-drop, length-drop, take-append-drop, append-nil, map-append}
 use Rattle.std.proofs.lemmas.List.Elements.{Decides-contains, All-contains, All-head, All-from_recursion, Contains-append_right}
 use Rattle.std.proofs.lemmas.List.Folds.{length-prefix_len}
-use Rattle.std.proofs.lemmas.List.Sums.{count_by-le-length, prefix_len-le-length, prefix_len_passes, prefix_len_stops}
+use Rattle.std.proofs.lemmas.List.Sums.{count_by-le-length, prefix_len_passes, prefix_len_stops}
 use Rattle.c_model.specs.Tokens.{is_word_byte, is_blank, newlines, punctuators, IsWord, IsToken, IsLongest, Token, AreBlanks, Divides}
 use Rattle.esbmc_cli.specs.declared.early.tokens.Lexeme.{Lexeme}
 use Rattle.esbmc_cli.specs.EarlyTokens.{token_of, seen}
@@ -23,7 +22,7 @@ same text word = pointwise nat_eq word text
 pub in_table : (table : List (List ℕ)) (text : List ℕ) (found : Bool) → found ≡ list_any (λ word. pointwise nat_eq word text) table → IsTrue found ↔ Contains table text
 in_table table text found e =
     let tells : Decides (list_any (same text) table) (Contains table text) =
-        Decides-contains table text _ (Decides-by_or (same text) (λ word. word ≡ text) (λ words. list_any (same text) words) (λ word. bytes_eq-Decides word text) refl (λ word words. refl) table) in
+    Decides-contains table text _ (Decides-by_or (same text) (λ word. word ≡ text) (λ words. list_any (same text) words) (λ word. bytes_eq-Decides word text) refl (λ word words. refl) table) in
     (λ is. tells.0 (sym e ∙ is), λ has. e ∙ tells.1 has)
 
 -- ---- the front that passes a test
@@ -45,9 +44,9 @@ stops_at p (c ∷ cs) h = h 0 (omega arith)
 pub rest_stops : (p : ℕ → Bool) (xs : List ℕ) → Stops p (drop (prefix_len p xs) xs)
 rest_stops p xs = stops_at p (drop (prefix_len p xs) xs)
     (λ d some.
-        let within : prefix_len p xs < length xs = grind (arith, length-drop) in
-        let at : prefix_len p xs + 0 ≡ prefix_len p xs = omega arith in
-        ap p (get_or-drop (prefix_len p xs) xs 0 d ∙ ap (λ k. get_or xs k d) at) ∙ prefix_len_stops p xs d within)
+    let within : prefix_len p xs < length xs = grind (arith, length-drop) in
+    let at : prefix_len p xs + 0 ≡ prefix_len p xs = omega arith in
+    ap p (get_or-drop (prefix_len p xs) xs 0 d ∙ ap (λ k. get_or xs k d) at) ∙ prefix_len_stops p xs d within)
 
 -- ---- the longest token
 

@@ -42,3 +42,6 @@ pub fn read_early(alloc: Global, bytes: &[u8]) -> Result<Program, EarlyFault>
     }
     Err(EarlyFault::NotYet)
 }
+
+#[cfg(test)]
+mod tests;

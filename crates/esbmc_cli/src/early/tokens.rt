@@ -17,7 +17,8 @@ pub struct Lexeme<'a> {
 
 // The punctuators that a straight program may have a part of (C11 6.4.6).
 static PUNCTUATORS: [&[u8]; 16] = [
-    b"(", b")", b"{", b"}", b";", b"=", b"==", b"!", b"!=", b"+", b"++", b"+=", b"-", b"--", b"-=", b"->",
+    b"(", b")", b"{", b"}", b";", b"=", b"==", b"!", b"!=", b"+", b"++", b"+=", b"-", b"--", b"-=",
+    b"->",
 ];
 
 fn blank(c: u8) -> bool
