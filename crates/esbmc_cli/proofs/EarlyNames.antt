@@ -1,15 +1,13 @@
 -- What is in scope.
-use Rattle.std.proofs.Common.{◌≡◌, ◌↔◌, ℕ, Bool, true, false, ◌||◌, IsTrue, nat_eq, List, [], ◌∷◌, ◌++◌, map, reverse, Contains, refl, sym, ap, subst, ◌∙◌, inl, inr, arith, Bor}
-use Rattle.std.specs.Bool.{OnTrue}
+use Rattle.std.proofs.Common.{◌≡◌, ◌↔◌, ℕ, Bool, ◌||◌, IsTrue, nat_eq, ◌+◌, ◌<◌, suc, List, [], ◌∷◌, ◌++◌, length, get_or, drop, add-one, drop-cons, map, reverse, Contains, refl, sym, ap, subst, ◌∙◌, inl, inr, arith, Bor}
 use Rattle.std.specs.List.{list_any}
 use Rattle.std.specs.Cmp.Lexicographic.{pointwise}
 use Rattle.std.proofs.lemmas.List.Elements.{Contains-append_cases, Contains-append_left, Contains-append_right}
 use Rattle.std.proofs.lemmas.List.{reverse-append, reverse-reverse}
-use Rattle.c_model.specs.declared.program.Sum.{Sum}
 use Rattle.c_model.specs.declared.program.BlockItem.{BlockItem}
-use Rattle.c_model.specs.declared.program.BlockItem.TheVariants.{Declare}
-use Rattle.c_model.specs.Early.{IsName, AreOperands, AreScoped}
-use Rattle.esbmc_cli.specs.EarlyNames.{in_scope, scope_after}
+use Rattle.c_model.specs.declared.program.BlockItem.TheVariants.{Declare, Assign, Assert}
+use Rattle.c_model.specs.Early.{AreScoped}
+use Rattle.esbmc_cli.specs.EarlyNames.{in_scope, scope_after, IsScoped}
 use Rattle.esbmc_cli.proofs.EarlyTokens.{in_table}
 
 contains_reversed : (xs : List (List ℕ)) (y : List ℕ) → Contains xs y → Contains (reverse xs) y
@@ -34,17 +32,27 @@ among names name found e =
     let tells : IsTrue found ↔ Contains texts name = in_table texts name found (e ∙ same_any names name) in
     (λ is. contains_reversed texts name (tells.0 is), λ has. tells.1 (subst P (reverse-reverse texts) (contains_reversed (reverse texts) name has)))
 
--- an item that declares a new name
-pub declares_new : (names : List (List ℕ)) (item : BlockItem) (text name : List ℕ) (value : Sum) (line : ℕ) (right : Bool) → item ≡ Declare name value line → text ≡ name → IsName text → (Contains names text → ⊥)
-    → OnTrue right (AreOperands names value) → OnTrue right ((later : List BlockItem) → AreScoped (scope_after names item) later → AreScoped names (item ∷ later))
-declares_new names item text name value line right is same named new operands = go right operands
-  where
-    P : BlockItem → Type 0
-    P it = (later : List BlockItem) → AreScoped (scope_after names it) later → AreScoped names (it ∷ later)
+-- ---- the items to come
 
-    Q : List ℕ → Type 0
-    Q t = IsName t × (Contains names t → ⊥)
+scoped_parts : (names : List (List ℕ)) (item : BlockItem) (later : List BlockItem) → AreScoped names (item ∷ later) ↔ (IsScoped names item × AreScoped (scope_after names item) later)
+scoped_parts names (Declare name value line) later = (λ all. ((all.0, all.1, all.2), all.3), λ parts. (parts.0.0, parts.0.1, parts.0.2, parts.1))
+scoped_parts names (Assign name value line) later = (λ all. ((all.0, all.1), all.2), λ parts. (parts.0.0, parts.0.1, parts.1))
+scoped_parts names (Assert relation left right line) later = (λ all. ((all.0, all.1), all.2), λ parts. (parts.0.0, parts.0.1, parts.1))
 
-    go : (b : Bool) → OnTrue b (AreOperands names value) → OnTrue b (P item)
-    go false h = tt
-    go true h = let both = subst Q same (named, new) in subst P (sym is) (λ later scoped. (both.0, both.1, h, scoped))
+pub next_parts : (names : List (List ℕ)) (items : List BlockItem) (at : ℕ) (item : BlockItem) → at < length items → item ≡ get_or items at item
+    → AreScoped names (drop at items) ↔ (IsScoped names item × AreScoped (scope_after names item) (drop (at + 1) items))
+next_parts names items at item within is =
+    let next : drop at items ≡ item ∷ drop (at + 1) items = drop-cons items at item within ∙ ap (λ i. i ∷ drop (suc at) items) (sym is) ∙ ap (λ n. item ∷ drop n items) (sym (add-one at)) in
+    let P : List BlockItem → Type 0 = λ its. AreScoped names its ↔ (IsScoped names item × AreScoped (scope_after names item) (drop (at + 1) items)) in
+    subst P (sym next) (scoped_parts names item (drop (at + 1) items))
+
+pub step_scoped : (names after_names : List (List ℕ)) (items : List BlockItem) (at : ℕ) (item : BlockItem) → at < length items → item ≡ get_or items at item → IsScoped names item → after_names ≡ scope_after names item
+    → AreScoped names (drop at items) ↔ AreScoped [] items → AreScoped after_names (drop (at + 1) items) ↔ AreScoped [] items
+step_scoped names after_names items at item within is scoped ea before =
+    let parts = next_parts names items at item within is in
+    let P : List (List ℕ) → Type 0 = λ ns. AreScoped ns (drop (at + 1) items) ↔ AreScoped [] items in
+    subst P (sym ea) (λ later. before.0 (parts.1 (scoped, later)), λ all. (parts.0 (before.1 all)).1)
+
+pub step_unscoped : (names : List (List ℕ)) (items : List BlockItem) (at : ℕ) (item : BlockItem) → at < length items → item ≡ get_or items at item → (IsScoped names item → ⊥)
+    → AreScoped names (drop at items) ↔ AreScoped [] items → AreScoped [] items → ⊥
+step_unscoped names items at item within is not_scoped before all = not_scoped ((next_parts names items at item within is).0 (before.1 all)).0

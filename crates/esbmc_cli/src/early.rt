@@ -12,7 +12,7 @@ use kv_base::NoMemory;
 use names::are_scoped;
 use std::alloc::Global;
 use syntax::Cursor;
-use tokens::divided;
+use tokens::tokenize;
 
 /// Why bytes aren't read as a straight program.
 #[derive(Clone, Copy, Debug, PartialEq, Eq)]
@@ -34,7 +34,7 @@ pub fn read_early(alloc: Global, bytes: &[u8]) -> Result<Program, EarlyFault>
     requires { length bytes.now ≤ 65536 }
     ensures found { IfOk result (λ program. Early bytes.now program) }
 {
-    let lexemes = divided(alloc, bytes)?;
+    let lexemes = tokenize(alloc, bytes)?;
     let mut cursor = Cursor::new(lexemes.as_slice());
     let items = cursor.program(alloc)?;
     if are_scoped(alloc, items.as_slice())? {

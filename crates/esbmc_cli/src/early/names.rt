@@ -1,12 +1,10 @@
 //! The names of a straight program: what may be declared, and what is in scope (C11 6.2.1).
 
 ghost use Rattle.std.specs.Prelude.{◌≡◌, ◌↔◌, IsTrue, List, [], ◌∷◌, Contains, IfOk, OnOk};
-ghost use Rattle.std.specs.Bool.{OnTrue};
-ghost use Rattle.c_model.specs.declared.program.BlockItem.{BlockItem};
 ghost use Rattle.c_model.specs.Early.{reserved, BeginsName, IsName, IsOperand, AreOperands, AreScoped};
-ghost use Rattle.esbmc_cli.specs.EarlyNames.{in_scope, scope_after};
+ghost use Rattle.esbmc_cli.specs.EarlyNames.{in_scope, scope_after, IsScoped};
 
-use super::tokens::word_byte;
+use super::tokens::is_word_byte;
 use c_model::{BlockItem, Operand, Sum};
 use kv_base::NoMemory;
 use std::alloc::Global;
@@ -104,19 +102,19 @@ fn is_reserved(text: &[u8]) -> bool
 }
 
 fn begins_name(text: &[u8]) -> bool
-    ensures { OnTrue result (BeginsName text.now) }
+    ensures { IsTrue result ↔ BeginsName text.now }
 {
     matches!(text, [b'A'..=b'Z' | b'a'..=b'z' | b'_', ..])
 }
 
 // Whether these bytes may name an object (6.4.2.1).
 fn is_name(text: &[u8]) -> bool
-    ensures { OnTrue result (IsName text.now) }
+    ensures { IsTrue result ↔ IsName text.now }
 {
     if !begins_name(text) || is_reserved(text) {
         return false;
     }
-    text.iter().all(|c| word_byte(*c))
+    text.iter().all(|c| is_word_byte(*c))
 }
 
 fn is_declared(names: &[&[u8]], name: &[u8]) -> bool
@@ -127,7 +125,7 @@ fn is_declared(names: &[&[u8]], name: &[u8]) -> bool
 
 // Whether a name is in scope, or an int can represent a number.
 fn is_operand(names: &[&[u8]], operand: &Operand) -> bool
-    ensures { OnTrue result (IsOperand (in_scope names.now) operand.now) }
+    ensures { IsTrue result ↔ IsOperand (in_scope names.now) operand.now }
 {
     match operand {
         Operand::Name { name } => is_declared(names, name.as_slice()),
@@ -136,7 +134,7 @@ fn is_operand(names: &[&[u8]], operand: &Operand) -> bool
 }
 
 fn are_operands(names: &[&[u8]], sum: &Sum) -> bool
-    ensures { OnTrue result (AreOperands (in_scope names.now) sum.now) }
+    ensures { IsTrue result ↔ AreOperands (in_scope names.now) sum.now }
 {
     if !is_operand(names, &sum.first) {
         return false;
@@ -149,7 +147,7 @@ fn are_operands(names: &[&[u8]], sum: &Sum) -> bool
 
 // Whether an item declares a new name or none, and uses names in scope.
 fn is_scoped(names: &[&[u8]], item: &BlockItem) -> bool
-    ensures { OnTrue result ((later : List BlockItem) → AreScoped (scope_after (in_scope names.now) item.now) later → AreScoped (in_scope names.now) (item.now ∷ later)) }
+    ensures { IsTrue result ↔ IsScoped (in_scope names.now) item.now }
 {
     match item {
         BlockItem::Declare { name, value, .. } => {
@@ -181,7 +179,7 @@ fn declare<'a>(names: &mut Vec<&'a [u8]>, item: &'a BlockItem) -> Result<(), NoM
 
 /// Whether each name is declared once, and used only in items after its declaration.
 pub fn are_scoped(alloc: Global, items: &[BlockItem]) -> Result<bool, NoMemory>
-    ensures { IfOk result (λ scoped. OnTrue scoped (AreScoped [] items.now)) }
+    ensures { IfOk result (λ scoped. IsTrue scoped ↔ AreScoped [] items.now) }
 {
     let mut names = Vec::new(alloc);
     'items: for item in items {

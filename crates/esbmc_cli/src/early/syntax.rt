@@ -28,7 +28,7 @@ impl<'t, 'a> Cursor<'t, 'a> {
 
     // The next token.
     fn peek(&self) -> Option<Lexeme<'a>>
-        ensures { IfSome result (λ lexeme. Some lexeme ≡ slice_get self.now.rest.now 0) }
+        ensures { result ≡ slice_get self.now.rest.now 0 }
     {
         self.rest.first().copied()
     }
@@ -43,7 +43,7 @@ impl<'t, 'a> Cursor<'t, 'a> {
 
     // Takes the next token.
     fn next(&mut self) -> Option<Lexeme<'a>>
-        ensures { IfSome result (λ lexeme. self.old.rest.now ≡ lexeme ∷ self.new.rest.now) }
+        ensures { MatchOption result ((self.old.rest.now ≡ []) × (self.new.rest.now ≡ [])) (λ lexeme. self.old.rest.now ≡ lexeme ∷ self.new.rest.now) }
     {
         match self.rest {
             [first, rest @ ..] => {

@@ -21,14 +21,14 @@ static PUNCTUATORS: [&[u8]; 16] = [
     b"->",
 ];
 
-fn blank(c: u8) -> bool
+fn is_blank(c: u8) -> bool
     ensures { result ≡ is_blank c }
 {
     matches!(c, b' ' | b'\t' | b'\n')
 }
 
 /// Whether words may have this byte.
-pub fn word_byte(c: u8) -> bool
+pub fn is_word_byte(c: u8) -> bool
     ensures { result ≡ is_word_byte c }
 {
     c.is_ascii_alphanumeric() || c == b'_'
@@ -38,14 +38,14 @@ pub fn word_byte(c: u8) -> bool
 fn blank_len(bytes: &[u8]) -> usize
     ensures { result ≡ prefix_len is_blank bytes.now }
 {
-    bytes.iter().take_while(|c| blank(**c)).count()
+    bytes.iter().take_while(|c| is_blank(**c)).count()
 }
 
 // How many letters, digits and underscores the bytes begin with.
 fn word_len(bytes: &[u8]) -> usize
     ensures { result ≡ prefix_len is_word_byte bytes.now }
 {
-    bytes.iter().take_while(|c| word_byte(**c)).count()
+    bytes.iter().take_while(|c| is_word_byte(**c)).count()
 }
 
 fn is_punctuator(text: &[u8]) -> bool
@@ -54,7 +54,7 @@ fn is_punctuator(text: &[u8]) -> bool
     PUNCTUATORS.contains(&text)
 }
 
-fn lines_in(blanks: &[u8]) -> usize
+fn newlines(blanks: &[u8]) -> usize
     ensures { result ≡ newlines blanks.now }
 {
     blanks.iter().filter(|c| **c == b'\n').count()
@@ -87,7 +87,7 @@ fn token_len(bytes: &[u8]) -> Option<usize>
 }
 
 /// The tokens that the bytes are divided into.
-pub fn divided<'a>(alloc: Global, bytes: &'a [u8]) -> Result<Vec<Lexeme<'a>>, EarlyFault>
+pub fn tokenize<'a>(alloc: Global, bytes: &'a [u8]) -> Result<Vec<Lexeme<'a>>, EarlyFault>
     requires { length bytes.now ≤ 65536 }
     ensures { IfOk result (λ lexemes. Divides 1 bytes.entry.now (seen lexemes.items)) }
 {
@@ -103,7 +103,7 @@ pub fn divided<'a>(alloc: Global, bytes: &'a [u8]) -> Result<Vec<Lexeme<'a>>, Ea
             return Err(EarlyFault::NotYet);
         };
         let (text, after) = begun.split_at(len);
-        line += lines_in(blanks) as u32;
+        line += newlines(blanks) as u32;
         let Ok(()) = lexemes.push(Lexeme { text, line }) else {
             return Err(EarlyFault::NoMemory);
         };

@@ -1,7 +1,7 @@
 use Rattle.std.proofs.Common.{◌≤◌, ◌+◌, List, ◌++◌, length}
 use Rattle.c_model.specs.Tokens.{Token, Divides}
 use Rattle.esbmc_cli.specs.EarlyTokens.{seen}
-use Rattle.esbmc_cli.proofs.early.tokens.divided.Given as goal
+use Rattle.esbmc_cli.proofs.early.tokens.tokenize.Given as goal
 
 -- what the rest is divided into completes what the whole is
 abbrev pub invariant-tokens : goal.invariant-tokens
