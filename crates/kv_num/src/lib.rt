@@ -3,10 +3,12 @@
 //! A number of a type is an `i128` in the type's range. No call takes memory, and none can fail.
 #![tactic(auto)]
 
-mod sums;
+mod arithmetic;
+mod shifts;
 mod types;
 mod wraps;
 
-pub use sums::{add, sub};
+pub use arithmetic::{add, div, mul, rem, sub};
+pub use shifts::{shl, shr};
 pub use types::{IntType, Num, is_signed, width};
 pub use wraps::{fits, wrap, wrap_is_unique};

@@ -2,7 +2,7 @@ ghost use Rattle.std.specs.Prelude.{◌≡◌, ◌↔◌, ◌≤◌, ◌^◌, �
 ghost use Rattle.kv_num.specs.declared.types.IntType.{IntType};
 ghost use Rattle.kv_num.specs.IntType.{size_of, below_of, InRange, wrap_of};
 
-use crate::IntType;
+use crate::{IntType, Num};
 
 /// How many numbers a type has.
 fn size(t: IntType) -> i128
@@ -56,6 +56,18 @@ pub fn fits(t: IntType, n: i128) -> bool
 {
     let below = below(t);
     -below <= n && n < size(t) - below
+}
+
+/// An exact result as a number of the type.
+pub(crate) fn typed(t: IntType, exact: i128) -> Num
+    ensures value { result.value ≡ wrap_of t exact }
+    ensures range { InRange t result.value }
+    ensures fits { IsTrue result.fits ↔ InRange t exact }
+{
+    Num {
+        value: wrap(t, exact),
+        fits: fits(t, exact),
+    }
 }
 
 /// `wrap` gives a number that is congruent to the one given, and it is the only such number of the
