@@ -1,7 +1,8 @@
 -- A wrapped number equals the number modulo the type's size, and no other number of the range does.
-use Rattle.std.proofs.Common.{arith, ◌≡◌, ℕ, zero, suc, ◌+◌, ◌*◌, ◌/◌, ◌<◌, ◌-◌, ◌%◌, ℤ, pos, negsuc, neg_ℤ, ◌+ℤ◌, ◌-ℤ◌, ◌*ℤ◌, ◌≤ℤ◌, ◌<ℤ◌, sym, ap, ◌∙◌}
+use Rattle.std.proofs.Common.{refl, arith, ◌≡◌, ℕ, zero, suc, ◌+◌, ◌*◌, ◌/◌, ◌<◌, ◌-◌, ◌%◌, ℤ, pos, negsuc, neg_ℤ, ◌+ℤ◌, ◌-ℤ◌, ◌*ℤ◌, ◌≤ℤ◌, ◌<ℤ◌, sym, ap, ◌∙◌}
 use Rattle.std.proofs.lemmas.Int.{ints}
 use Rattle.std.proofs.lemmas.Nat.{pow_pos}
+use Rattle.std.specs.Prelude.{unsigned_abs}
 use Rattle.std.specs.Int.{int_rem_euclid}
 use Rattle.kv_num.specs.declared.types.IntType.{IntType}
 use Rattle.kv_num.specs.IntType.{width_of, size_of, below_of, InRange, wrap_of}
@@ -20,6 +21,14 @@ pub rem_congruent : (z : ℤ) (s : ℕ) → 0 < s → (k : ℤ) × (z ≡ int_re
 rem_congruent (pos a) s p = (pos (a / s), ap pos (divided a s p))
 rem_congruent (negsuc a) s p = (negsuc (a / s), below_zero a s (a / s) (a % s) (omega arith) (divided a s p))
 
+pub rem_most : (z : ℤ) (s : ℕ) → 0 < s → unsigned_abs (int_rem_euclid z (pos s)) < s
+rem_most (pos a) s p = omega arith
+rem_most (negsuc a) s p = omega arith
+
+pub pos-rem : (z : ℤ) (s : ℕ) → int_rem_euclid z (pos s) ≡ pos (unsigned_abs (int_rem_euclid z (pos s)))
+pos-rem (pos a) s = refl
+pos-rem (negsuc a) s = refl
+
 moved_back : (n r k : ℤ) (b : ℕ) → n +ℤ pos b ≡ r +ℤ k → n ≡ (r -ℤ pos b) +ℤ k
 moved_back n r k b e = omega (arith, ints)
 
@@ -35,7 +44,7 @@ near m w zero (suc c) s b m0 m1 w0 w1 e = absurd (omega (arith, ints))
 near m w (suc a) zero s b m0 m1 w0 w1 e = absurd (omega (arith, ints))
 near m w (suc a) (suc c) s b m0 m1 w0 w1 e = near m w a c s b m0 m1 w0 w1 (omega (arith, ints))
 
-one_number : (m w k j : ℤ) (s b : ℕ) → pos 0 ≤ℤ (m +ℤ pos b) → (m +ℤ pos b) <ℤ pos s → pos 0 ≤ℤ (w +ℤ pos b) → (w +ℤ pos b) <ℤ pos s → m +ℤ (k *ℤ pos s) ≡ w +ℤ (j *ℤ pos s) → m ≡ w
+pub one_number : (m w k j : ℤ) (s b : ℕ) → pos 0 ≤ℤ (m +ℤ pos b) → (m +ℤ pos b) <ℤ pos s → pos 0 ≤ℤ (w +ℤ pos b) → (w +ℤ pos b) <ℤ pos s → m +ℤ (k *ℤ pos s) ≡ w +ℤ (j *ℤ pos s) → m ≡ w
 one_number m w (pos a) (pos c) s b m0 m1 w0 w1 e = near m w a c s b m0 m1 w0 w1 e
 one_number m w (pos a) (negsuc c) s b m0 m1 w0 w1 e = near m w (a + suc c) 0 s b m0 m1 w0 w1 (omega (arith, ints))
 one_number m w (negsuc a) (pos c) s b m0 m1 w0 w1 e = near m w 0 (c + suc a) s b m0 m1 w0 w1 (omega (arith, ints))

@@ -12,7 +12,7 @@ use Rattle.kv_num.specs.declared.types.IntType.{IntType}
 use Rattle.kv_num.specs.IntType.{width_of, size_of, InRange, wrap_of}
 use Rattle.kv_num.specs.Quotient.{remainder_of}
 use Rattle.kv_num.proofs.Range.{width_most, abs_below, range_over_zero, range_under_zero}
-use Rattle.kv_num.proofs.Congruence.{rem_congruent, wrap_of-congruent}
+use Rattle.kv_num.proofs.Congruence.{rem_congruent, rem_most, pos-rem, wrap_of-congruent}
 use Rattle.kv_num.proofs.Ring.{more_multiple, times-times}
 
 pub held : (t : IntType) (n : ℤ) → InRange t n → FitsSigned w128 n
@@ -59,7 +59,7 @@ signed_by : (m h : ℕ) (b : Bool) → nat_lt m h ≡ b → m < h + h → (k : �
 signed_by m h true e small = (pos 0, omega (arith, ints))
 signed_by m h false e small = (pos 1, omega (arith, ints))
 
-signed_congruent : (m : ℕ) → m < 2 ^ 128 → (k : ℤ) × (pos m ≡ to_z w128 m +ℤ (k *ℤ pos (2 ^ 128)))
+pub signed_congruent : (m : ℕ) → m < 2 ^ 128 → (k : ℤ) × (pos m ≡ to_z w128 m +ℤ (k *ℤ pos (2 ^ 128)))
 signed_congruent m small = signed_by m (2 ^ 127) (nat_lt m (2 ^ 127)) refl small
 
 size_divides : (w : ℕ) → w ≤ 64 → 2 ^ 128 ≡ 2 ^ (128 - w) * 2 ^ w
@@ -75,21 +75,13 @@ in_sizes k m s whole e = ap (λ x. k *ℤ x) e ∙ sym (times-times k m s)
 pub wrap_of-int_wrap : (t : IntType) (z : ℤ) → wrap_of t (int_wrap w128 z) ≡ wrap_of t z
 unfolding int_wrap
 wrap_of-int_wrap t z =
-    let small : unsigned_abs (int_rem_euclid z (pos (2 ^ 128))) < 2 ^ 128 = abs_rem z (2 ^ 128) (pow_pos 128) in
+    let small : unsigned_abs (int_rem_euclid z (pos (2 ^ 128))) < 2 ^ 128 = rem_most z (2 ^ 128) (pow_pos 128) in
     let p = rem_congruent z (2 ^ 128) (pow_pos 128) in
     let q = signed_congruent (unsigned_abs (int_rem_euclid z (pos (2 ^ 128)))) small in
     let k : ℤ = q.0 +ℤ p.0 in
     let m : ℤ = pos (2 ^ (128 - width_of t)) in
-    sym (wrap_of-congruent t z (int_wrap w128 z) (k *ℤ m) (more_multiple z (int_rem_euclid z (pos (2 ^ 128))) (int_wrap w128 z) q.0 p.0 (pos (2 ^ 128)) p.1 (pos_abs_rem z (2 ^ 128) ∙ q.1)
+    sym (wrap_of-congruent t z (int_wrap w128 z) (k *ℤ m) (more_multiple z (int_rem_euclid z (pos (2 ^ 128))) (int_wrap w128 z) q.0 p.0 (pos (2 ^ 128)) p.1 (pos-rem z (2 ^ 128) ∙ q.1)
     ∙ ap (λ x. int_wrap w128 z +ℤ x) (in_sizes k m (pos (size_of t)) (pos (2 ^ 128)) (ap pos (size_divides (width_of t) (width_most t))))))
-  where
-    abs_rem : (z : ℤ) (s : ℕ) → 0 < s → unsigned_abs (int_rem_euclid z (pos s)) < s
-    abs_rem (pos a) s p = omega arith
-    abs_rem (negsuc a) s p = omega arith
-
-    pos_abs_rem : (z : ℤ) (s : ℕ) → int_rem_euclid z (pos s) ≡ pos (unsigned_abs (int_rem_euclid z (pos s)))
-    pos_abs_rem (pos a) s = refl
-    pos_abs_rem (negsuc a) s = refl
 
 -- what the machine's wrapping product is
 pub held_product : (a b p : ℤ) → FitsSigned w128 a → FitsSigned w128 b → p ≡ int_wrapping_mul w128 (to_z w128 (of_z w128 a)) (to_z w128 (of_z w128 b)) → to_z w128 (of_z w128 p) ≡ int_wrap w128 (a *ℤ b)

@@ -4,11 +4,13 @@
 #![tactic(auto)]
 
 mod arithmetic;
+mod bitwise;
 mod shifts;
 mod types;
 mod wraps;
 
 pub use arithmetic::{add, div, mul, rem, sub};
+pub use bitwise::{bit_and, bit_not, bit_or, bit_xor};
 pub use shifts::{shl, shr};
 pub use types::{IntType, Num, is_signed, width};
 pub use wraps::{fits, wrap, wrap_is_unique};
