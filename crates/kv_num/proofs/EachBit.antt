@@ -10,7 +10,7 @@ use borrow.Author.Differences.{fits_in, read_fits}
 use Rattle.kv_num.specs.declared.types.IntType.{IntType}
 use Rattle.kv_num.specs.IntType.{width_of, signed_of, size_of, InRange, wrap_of}
 use Rattle.kv_num.specs.Bits.{bit_of, differ, pattern_of, not_of}
-use Rattle.kv_num.proofs.Patterns.{reading-congruent, bit_of-reading, bit_of-wrap_of, bit_of-negsuc, bit_at-complement, pattern_most, same_from_bits_of, same_bit, flip}
+use Rattle.kv_num.proofs.Patterns.{low_bits-congruent, bit_of-low_bits, bit_of-wrap_of, bit_of-negsuc, bit_at-complement, pattern_most, same_from_bits_of, same_bit, flip}
 use Rattle.kv_num.proofs.Signs.{below_from_bits, clear_above, high_bits, small_from_bits, natural_from_bits, mag_signed, signed_mag, natural_unsigned, unsigned_natural}
 use Rattle.kv_num.proofs.Held.{held, signed_congruent}
 use Rattle.kv_num.proofs.Range.{range-wrap_of}
@@ -18,7 +18,7 @@ use Rattle.kv_num.proofs.Range.{range-wrap_of}
 bit_of-to_z : (n k : ℕ) → n < 2 ^ 128 → k < 128 → bit_of (to_z w128 n) k ≡ (bit_at n k == 1)
 bit_of-to_z n k small h =
     let c = signed_congruent n small in
-    bit_of-reading 128 (to_z w128 n) k h ∙ ap (λ m. bit_at m k == 1) (sym (reading-congruent 128 (pos n) (to_z w128 n) c.0 c.1) ∙ mod-eq_of_lt small)
+    bit_of-low_bits 128 (to_z w128 n) k h ∙ ap (λ m. bit_at m k == 1) (sym (low_bits-congruent 128 (pos n) (to_z w128 n) c.0 c.1) ∙ mod-eq_of_lt small)
 
 of_z_most : (a : ℤ) → FitsSigned w128 a → of_z w128 a < 2 ^ 128
 of_z_most (pos n) f = omega (arith, f.sfits)
@@ -74,11 +74,15 @@ module _ (F : ℕ → ℕ → ℕ) (f : Bool → Bool → Bool) (each : (p q k :
   pub pattern_bits : (t : IntType) (a b : ℤ) (k : ℕ) → k < width_of t → bit_of (wrap_of t (pos (F (pattern_of t a) (pattern_of t b)))) k ≡ f (bit_of a k) (bit_of b k)
   pattern_bits t a b k h =
       bit_of-wrap_of t (pos (F (pattern_of t a) (pattern_of t b))) k h
-      ∙ (each (pattern_of t a) (pattern_of t b) k ∙ sym (λ i. f (bit_of-reading (width_of t) a k h i) (bit_of-reading (width_of t) b k h i)))
+      ∙ (each (pattern_of t a) (pattern_of t b) k ∙ sym (λ i. f (bit_of-low_bits (width_of t) a k h i) (bit_of-low_bits (width_of t) b k h i)))
 
   pub value_is : (t : IntType) (a b : ℤ) → InRange t a → InRange t b → to_z w128 (F (of_z w128 a) (of_z w128 b)) ≡ wrap_of t (pos (F (pattern_of t a) (pattern_of t b)))
   value_is t a b ia ib = same_from_bits_of t (to_z w128 (F (of_z w128 a) (of_z w128 b))) (wrap_of t (pos (F (pattern_of t a) (pattern_of t b)))) (range_is t a b ia ib) (range-wrap_of t (pos (F (pattern_of t a) (pattern_of t b))))
       (λ k h. bits_are a b (held t a ia) (held t b ib) k ∙ sym (pattern_bits t a b k h))
+
+  -- the same of the definition
+  pub bits_of_value : (t : IntType) (a b : ℤ) (k : ℕ) → InRange t a → InRange t b → bit_of (wrap_of t (pos (F (pattern_of t a) (pattern_of t b)))) k ≡ f (bit_of a k) (bit_of b k)
+  bits_of_value t a b k ia ib = ap (λ z. bit_of z k) (sym (value_is t a b ia ib)) ∙ bits_are a b (held t a ia) (held t b ib) k
 
 -- ---- the operations on one bit
 
@@ -125,7 +129,7 @@ complement_bits t a k h =
     let p = pattern_of t a in
     bit_of-wrap_of t (pos (size_of t - 1 - p)) k h
     ∙ (ap (λ b. b == 1) (bit_at-complement (width_of t) p k (pattern_most t a) h)
-    ∙ (flip (bit_at p k) (bit_at-lt p k) ∙ ap not (sym (bit_of-reading (width_of t) a k h))))
+    ∙ (flip (bit_at p k) (bit_at-lt p k) ∙ ap not (sym (bit_of-low_bits (width_of t) a k h))))
 
 negsuc_held : (n : ℕ) → n < 2 ^ 127 → to_z w128 (2 ^ 128 - 1 - n) ≡ negsuc n
 negsuc_held n h = let e : 2 ^ 128 - 1 - n ≡ 2 ^ 128 - suc n = omega arith in ap (to_z w128) e ∙ to_z-of_z w128 (negsuc n) (record { sfits = h })

@@ -5,6 +5,8 @@ use Rattle.std.proofs.lemmas.Nat.{pow_pos, pow-add, mod_below}
 use Rattle.std.proofs.lemmas.Nat.Bits.{bit_at-lt, same_from_bits, bit_at_above}
 use Rattle.std.proofs.lemmas.Bool.{cases_lt, false≢true}
 use Rattle.std.proofs.Math.Nat.{pow-suc, mul-le-mul_right}
+use Rattle.std.proofs.lemmas.Bool.Decides.{nat_tests}
+use Rattle.std.specs.Prelude.{IsTrue, int_lt}
 use Rattle.std.specs.Int.{bit_at}
 use lib.Signed.{mag}
 use Rattle.kv_num.specs.declared.types.IntType.{IntType}
@@ -91,7 +93,7 @@ natural_in (negsuc n) s c p h k = absurd (omega (arith, ints))
 in_natural : (m s c : ℕ) → c ≡ 0 → m < s → (pos 0 ≤ℤ (pos m +ℤ pos c)) × ((pos m +ℤ pos c) <ℤ pos s)
 in_natural m s c p h = (omega (arith, ints), omega (arith, ints))
 
-below_by : (t : IntType) (b : Bool) → signed_of t ≡ b → below_of t ≡ (if b then 2 ^ (width_of t - 1) else 0)
+pub below_by : (t : IntType) (b : Bool) → signed_of t ≡ b → below_of t ≡ (if b then 2 ^ (width_of t - 1) else 0)
 below_by t b e = ap (λ (s : Bool). if s then 2 ^ (width_of t - 1) else 0) e
 
 pub mag_signed : (t : IntType) (n : ℤ) → signed_of t ≡ true → InRange t n → mag n < 2 ^ (width_of t - 1)
@@ -105,3 +107,25 @@ natural_unsigned t n e is = natural_in n (size_of t) (below_of t) (below_by t fa
 
 pub unsigned_natural : (t : IntType) (m : ℕ) → signed_of t ≡ false → m < size_of t → InRange t (pos m)
 unsigned_natural t m e h = let r = in_natural m (size_of t) (below_of t) (below_by t false e) h in record { least = r.0; most = r.1 }
+
+-- ---- the bits from the width on
+
+sign_by : (z : ℤ) (h k : ℕ) → mag z < 2 ^ h → h ≤ k → bit_of z k ≡ int_lt z (pos 0)
+sign_by (pos n) h k small high = clear_above n h k small high ∙ sym (never n)
+  where
+    never : (n : ℕ) → int_lt (pos n) (pos 0) ≡ false
+    never n = grind (arith, nat_tests)
+sign_by (negsuc n) h k small high = set_above n h k small high
+
+pub sign_bits : (t : IntType) (a : ℤ) (k : ℕ) → InRange t a → signed_of t ≡ true → width_of t ≤ k + 1 → bit_of a k ≡ int_lt a (pos 0)
+sign_bits t a k is e high = sign_by a (width_of t - 1) k (mag_signed t a e is) (omega arith)
+
+pub unsigned_bits : (t : IntType) (a : ℤ) (k : ℕ) → InRange t a → signed_of t ≡ false → width_of t ≤ k → bit_of a k ≡ false
+unsigned_bits t a k is e high = let m = natural_unsigned t a e is in ap (λ z. bit_of z k) m.1 ∙ clear_above m.0 (width_of t) k m.2 high
+
+pub is_false : (b : Bool) → IsTrue (not b) → b ≡ false
+is_false true h = absurd (false≢true h)
+is_false false h = refl
+
+pub false_is : (b : Bool) → b ≡ false → IsTrue (not b)
+false_is b e = ap not e

@@ -1,5 +1,4 @@
-ghost use Rattle.std.specs.Prelude.{◌≡◌, ◌↔◌, ◌≤◌, ◌^◌, ℤ, pos, ◌+ℤ◌, ◌*ℤ◌, IsTrue};
-ghost use Rattle.kv_num.specs.declared.types.IntType.{IntType};
+ghost use Rattle.std.specs.Prelude.{◌≡◌, ◌↔◌, ◌≤◌, ◌^◌, pos, IsTrue};
 ghost use Rattle.kv_num.specs.IntType.{size_of, below_of, InRange, wrap_of};
 
 use crate::{IntType, Num};
@@ -69,10 +68,3 @@ pub(crate) fn typed(t: IntType, exact: i128) -> Num
         fits: fits(t, exact),
     }
 }
-
-/// `wrap` gives a number that is congruent to the one given, and it is the only such number of the
-/// type's range. This function computes nothing: its contract is the law.
-pub fn wrap_is_unique()
-    ensures congruent { (t : IntType) (n : ℤ) → (k : ℤ) × (n ≡ wrap_of t n +ℤ (k *ℤ pos (size_of t))) }
-    ensures only { (t : IntType) (n m k : ℤ) → InRange t m → n ≡ m +ℤ (k *ℤ pos (size_of t)) → m ≡ wrap_of t n }
-{}
