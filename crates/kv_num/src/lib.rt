@@ -19,3 +19,6 @@ pub use laws::{
 pub use shifts::{shl, shr};
 pub use types::{IntType, Num, is_signed, width};
 pub use wraps::{fits, wrap};
+
+#[cfg(test)]
+mod tests;
