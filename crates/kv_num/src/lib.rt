@@ -3,10 +3,22 @@
 //! A number of a type is an `i128` in the type's range. No call takes memory, and none can fail.
 #![tactic(auto)]
 
-mod sums;
+mod arithmetic;
+mod bitwise;
+mod laws;
+mod shifts;
 mod types;
 mod wraps;
 
-pub use sums::{add, sub};
+pub use arithmetic::{add, div, mul, rem, sub};
+pub use bitwise::{bit_and, bit_not, bit_or, bit_xor};
+pub use laws::{
+    bits_combine, bits_make_numbers, division_goes_by_sign, patterns_compute, patterns_read_bits,
+    results_are_in_range, shifts_are_products, wrap_absorbs_wrap, wrap_is_unique,
+};
+pub use shifts::{shl, shr};
 pub use types::{IntType, Num, is_signed, width};
-pub use wraps::{fits, wrap, wrap_is_unique};
+pub use wraps::{fits, wrap};
+
+#[cfg(test)]
+mod tests;

@@ -1,0 +1,968 @@
+//! The ends of the ranges, examples, and results that an outside C compiler computed.
+use super::*;
+use std::process::Abort;
+use std::test::Fail;
+
+#[derive(Clone, Copy, Debug)]
+enum Operation {
+    Add,
+    Sub,
+    Mul,
+    Div,
+    Rem,
+    ShiftLeft,
+    ShiftRight,
+    And,
+    Or,
+    Xor,
+    Not,
+}
+
+/// A number that fits.
+fn exact(value: i128) -> Num {
+    Num { value, fits: true }
+}
+
+/// The first operand shifted by the second, where that is a distance of the type.
+fn shifted(operation: Operation, t: IntType, a: i128, b: i128) -> Option<Num> {
+    let d = u32::try_from(b).ok()?;
+    if !fits(t, a) || d >= width(t) {
+        return None;
+    }
+    match operation {
+        Operation::ShiftLeft => Some(shl(t, a, d)),
+        _ => Some(exact(shr(t, a, d))),
+    }
+}
+
+/// The first operand divided by the second, where that is not 0.
+fn divided(operation: Operation, t: IntType, a: i128, b: i128) -> Option<Num> {
+    if !fits(t, a) || !fits(t, b) || b == 0 {
+        return None;
+    }
+    match operation {
+        Operation::Div => Some(div(t, a, b)),
+        _ => Some(rem(t, a, b)),
+    }
+}
+
+/// The result of an operation on numbers of a type.
+fn result(operation: Operation, t: IntType, a: i128, b: i128) -> Option<Num> {
+    if !fits(t, a) || !fits(t, b) {
+        return None;
+    }
+    match operation {
+        Operation::Add => Some(add(t, a, b)),
+        Operation::Sub => Some(sub(t, a, b)),
+        Operation::Mul => Some(mul(t, a, b)),
+        Operation::Div | Operation::Rem => divided(operation, t, a, b),
+        Operation::ShiftLeft | Operation::ShiftRight => shifted(operation, t, a, b),
+        Operation::And => Some(exact(bit_and(t, a, b))),
+        Operation::Or => Some(exact(bit_or(t, a, b))),
+        Operation::Xor => Some(exact(bit_xor(t, a, b))),
+        Operation::Not => Some(exact(bit_not(t, a))),
+    }
+}
+
+/// An operation, a type, two operands, the value, and whether it fits.
+type Case = (Operation, IntType, i128, i128, i128, bool);
+
+/// Each case gives its value.
+fn agree(rt: &impl Abort, cases: &[Case]) -> Result<(), Fail> {
+    for &(operation, t, a, b, value, fits) in cases {
+        let num = result(operation, t, a, b).ok_or("a condition")?;
+        assert_eq!(rt; num, Num { value, fits }, "{operation:?} {t:?} {a} {b}");
+    }
+    Ok(())
+}
+
+#[test]
+fn examples(rt: HostRuntime) -> Result<(), Fail> {
+    let most = 18_446_744_073_709_551_615;
+    assert_eq!(rt; wrap(IntType::Char, 200), -56);
+    let cases = [
+        (Operation::Div, IntType::Int, -7, 2, -3, true),
+        (Operation::Rem, IntType::Int, -7, 2, -1, true),
+        (Operation::ShiftRight, IntType::Int, -8, 1, -4, true),
+        (Operation::Mul, IntType::ULongLong, most, most, 1, false),
+    ];
+    agree(&rt, &cases)
+}
+
+/// Each type, with its width, least and greatest number.
+const ENDS: [(IntType, u32, i128, i128); 14] = [
+    (IntType::Bool, 1, 0, 1),
+    (IntType::Char, 8, -128, 127),
+    (IntType::SChar, 8, -128, 127),
+    (IntType::UChar, 8, 0, 255),
+    (IntType::Short, 16, -32_768, 32_767),
+    (IntType::UShort, 16, 0, 65_535),
+    (IntType::Int, 32, -2_147_483_648, 2_147_483_647),
+    (IntType::UInt, 32, 0, 4_294_967_295),
+    (IntType::Long32, 32, -2_147_483_648, 2_147_483_647),
+    (IntType::ULong32, 32, 0, 4_294_967_295),
+    (
+        IntType::Long,
+        64,
+        -9_223_372_036_854_775_808,
+        9_223_372_036_854_775_807,
+    ),
+    (IntType::ULong, 64, 0, 18_446_744_073_709_551_615),
+    (
+        IntType::LongLong,
+        64,
+        -9_223_372_036_854_775_808,
+        9_223_372_036_854_775_807,
+    ),
+    (IntType::ULongLong, 64, 0, 18_446_744_073_709_551_615),
+];
+
+/// What each operation gives at the ends of a range.
+fn agree_at_ends(
+    rt: &impl Abort,
+    t: IntType,
+    bits: u32,
+    least: i128,
+    most: i128,
+) -> Result<(), Fail> {
+    let (past, next) = (least.wrapping_sub(1), most.wrapping_add(1));
+    let (all, quotient, last) = if least < 0 { (-1, -1, 0) } else { (most, 0, 1) };
+    let top = if least < 0 { least } else { next / 2 };
+    let distance = i128::from(bits) - 1;
+    assert_eq!(rt; width(t), bits, "{t:?}");
+    assert_eq!(rt; is_signed(t), least < 0, "{t:?}");
+    assert!(rt; fits(t, least) && fits(t, most), "{t:?}");
+    assert!(rt; !fits(t, past) && !fits(t, next), "{t:?}");
+    assert_eq!(rt; wrap(t, past), most, "{t:?}");
+    assert_eq!(rt; wrap(t, next), least, "{t:?}");
+    let cases = [
+        (Operation::Add, t, most, 1, least, false),
+        (Operation::Sub, t, least, 1, most, false),
+        (Operation::Mul, t, most, most, 1, most == 1),
+        (Operation::Div, t, least, most, quotient, true),
+        (Operation::Rem, t, least, most, quotient, true),
+        (Operation::ShiftLeft, t, most, distance, top, bits == 1),
+        (Operation::ShiftRight, t, most, distance, last, true),
+        (Operation::And, t, least, most, 0, true),
+        (Operation::Or, t, least, most, all, true),
+        (Operation::Xor, t, least, most, all, true),
+        (Operation::Not, t, least, 0, most, true),
+    ];
+    agree(rt, &cases)
+}
+
+fn agree_at_all_ends(rt: &impl Abort, ends: &[(IntType, u32, i128, i128)]) -> Result<(), Fail> {
+    for &(t, bits, least, most) in ends {
+        agree_at_ends(rt, t, bits, least, most)?;
+    }
+    Ok(())
+}
+
+#[test]
+fn ends(rt: HostRuntime) -> Result<(), Fail> {
+    agree_at_all_ends(&rt, &ENDS)
+}
+
+#[test]
+fn as_compiled_c(rt: HostRuntime) -> Result<(), Fail> {
+    agree(&rt, &CASES)
+}
+
+/// What programs of GCC 12 computed. `fits` is that of the checked arithmetic of GCC.
+const CASES: [Case; 200] = [
+    (Operation::Add, IntType::Bool, 1, 0, 1, true),
+    (Operation::Add, IntType::Char, -78, -127, 51, false),
+    (Operation::Add, IntType::SChar, -114, 113, -1, true),
+    (Operation::Add, IntType::UChar, 187, 1, 188, true),
+    (Operation::Add, IntType::Short, 32_766, -1, 32_765, true),
+    (
+        Operation::Add,
+        IntType::UShort,
+        12_793,
+        65_534,
+        12_791,
+        false,
+    ),
+    (
+        Operation::Add,
+        IntType::Int,
+        1,
+        2_139_548_377,
+        2_139_548_378,
+        true,
+    ),
+    (Operation::Add, IntType::UInt, 8, 7, 15, true),
+    (
+        Operation::Add,
+        IntType::Long32,
+        -7,
+        -2_147_483_647,
+        2_147_483_642,
+        false,
+    ),
+    (
+        Operation::Add,
+        IntType::ULong32,
+        3_839_621_479,
+        4_294_967_294,
+        3_839_621_477,
+        false,
+    ),
+    (
+        Operation::Add,
+        IntType::Long,
+        -9_223_372_036_854_775_807,
+        7_860_358_872_777_883_003,
+        -1_363_013_164_076_892_804,
+        true,
+    ),
+    (
+        Operation::Add,
+        IntType::ULong,
+        14_402_202_164_522_580_323,
+        18_446_744_073_709_551_615,
+        14_402_202_164_522_580_322,
+        false,
+    ),
+    (Operation::Add, IntType::LongLong, -7, -1, -8, true),
+    (
+        Operation::Add,
+        IntType::ULongLong,
+        18_446_744_073_709_551_614,
+        11_352_936_094_994_678_599,
+        11_352_936_094_994_678_597,
+        false,
+    ),
+    (Operation::Sub, IntType::Bool, 0, 1, 1, false),
+    (Operation::Sub, IntType::Char, -33, 7, -40, true),
+    (Operation::Sub, IntType::SChar, 40, 127, -87, true),
+    (Operation::Sub, IntType::UChar, 255, 1, 254, true),
+    (
+        Operation::Sub,
+        IntType::Short,
+        17_944,
+        32_767,
+        -14_823,
+        true,
+    ),
+    (Operation::Sub, IntType::UShort, 7, 65_535, 8, false),
+    (
+        Operation::Sub,
+        IntType::Int,
+        2_147_483_647,
+        2_147_483_646,
+        1,
+        true,
+    ),
+    (
+        Operation::Sub,
+        IntType::UInt,
+        3_200_245_129,
+        7,
+        3_200_245_122,
+        true,
+    ),
+    (
+        Operation::Sub,
+        IntType::Long32,
+        -2_147_483_648,
+        7,
+        2_147_483_641,
+        false,
+    ),
+    (
+        Operation::Sub,
+        IntType::ULong32,
+        4_294_967_295,
+        1,
+        4_294_967_294,
+        true,
+    ),
+    (
+        Operation::Sub,
+        IntType::Long,
+        -1,
+        9_223_372_036_854_775_806,
+        -9_223_372_036_854_775_807,
+        true,
+    ),
+    (
+        Operation::Sub,
+        IntType::ULong,
+        0,
+        18_446_744_073_709_551_614,
+        2,
+        false,
+    ),
+    (
+        Operation::Sub,
+        IntType::LongLong,
+        7,
+        -6_396_078_646_838_159_240,
+        6_396_078_646_838_159_247,
+        true,
+    ),
+    (
+        Operation::Sub,
+        IntType::ULongLong,
+        12_128_644_988_294_933_696,
+        0,
+        12_128_644_988_294_933_696,
+        true,
+    ),
+    (Operation::Mul, IntType::Bool, 0, 0, 0, true),
+    (Operation::Mul, IntType::Char, -1, -1, 1, true),
+    (Operation::Mul, IntType::SChar, 126, -127, 126, false),
+    (Operation::Mul, IntType::UChar, 1, 177, 177, true),
+    (Operation::Mul, IntType::Short, 1, 32_767, 32_767, true),
+    (Operation::Mul, IntType::UShort, 0, 0, 0, true),
+    (
+        Operation::Mul,
+        IntType::Int,
+        335_813_172,
+        -2_147_483_648,
+        0,
+        false,
+    ),
+    (Operation::Mul, IntType::UInt, 0, 7, 0, true),
+    (
+        Operation::Mul,
+        IntType::Long32,
+        372_221_330,
+        7,
+        -1_689_417_986,
+        false,
+    ),
+    (
+        Operation::Mul,
+        IntType::ULong32,
+        135_937_529,
+        4_294_967_295,
+        4_159_029_767,
+        false,
+    ),
+    (Operation::Mul, IntType::Long, 1, -1, -1, true),
+    (
+        Operation::Mul,
+        IntType::ULong,
+        7,
+        18_446_744_073_709_551_615,
+        18_446_744_073_709_551_609,
+        false,
+    ),
+    (
+        Operation::Mul,
+        IntType::LongLong,
+        56,
+        2_230_841_237_961_640_507,
+        -4_200_099_190_114_992_920,
+        false,
+    ),
+    (
+        Operation::Mul,
+        IntType::ULongLong,
+        1,
+        9_899_021_680_876_316_790,
+        9_899_021_680_876_316_790,
+        true,
+    ),
+    (Operation::Div, IntType::Bool, 1, 1, 1, true),
+    (Operation::Div, IntType::Char, 29, 126, 0, true),
+    (Operation::Div, IntType::SChar, -127, 7, -18, true),
+    (Operation::Div, IntType::UChar, 1, 254, 0, true),
+    (Operation::Div, IntType::Short, 32_766, 7, 4680, true),
+    (Operation::Div, IntType::UShort, 1, 3, 0, true),
+    (Operation::Div, IntType::Int, 1, -7, 0, true),
+    (
+        Operation::Div,
+        IntType::UInt,
+        2_485_842_896,
+        99,
+        25_109_524,
+        true,
+    ),
+    (
+        Operation::Div,
+        IntType::Long32,
+        2_147_483_646,
+        2_147_483_647,
+        0,
+        true,
+    ),
+    (
+        Operation::Div,
+        IntType::ULong32,
+        4_294_967_295,
+        1,
+        4_294_967_295,
+        true,
+    ),
+    (
+        Operation::Div,
+        IntType::Long,
+        1_449_825_972_725_701_612,
+        -1,
+        -1_449_825_972_725_701_612,
+        true,
+    ),
+    (
+        Operation::Div,
+        IntType::ULong,
+        18_446_744_073_709_551_615,
+        18_446_744_073_709_551_614,
+        1,
+        true,
+    ),
+    (
+        Operation::Div,
+        IntType::LongLong,
+        9_223_372_036_854_775_806,
+        -7,
+        -1_317_624_576_693_539_400,
+        true,
+    ),
+    (
+        Operation::Div,
+        IntType::ULongLong,
+        6_655_717_231_874_280_162,
+        2_724_626_950_009_541_239,
+        2,
+        true,
+    ),
+    (Operation::Rem, IntType::Bool, 0, 1, 0, true),
+    (Operation::Rem, IntType::Char, 32, -1, 0, true),
+    (Operation::Rem, IntType::SChar, 121, 57, 7, true),
+    (Operation::Rem, IntType::UChar, 255, 144, 111, true),
+    (Operation::Rem, IntType::Short, -32_767, 1, 0, true),
+    (Operation::Rem, IntType::UShort, 46_439, 42_445, 3994, true),
+    (
+        Operation::Rem,
+        IntType::Int,
+        1_178_000_862,
+        1_098_647_525,
+        79_353_337,
+        true,
+    ),
+    (Operation::Rem, IntType::UInt, 2_219_275_419, 8, 3, true),
+    (
+        Operation::Rem,
+        IntType::Long32,
+        -1,
+        -1_052_392_098,
+        -1,
+        true,
+    ),
+    (Operation::Rem, IntType::ULong32, 0, 7, 0, true),
+    (
+        Operation::Rem,
+        IntType::Long,
+        -9_223_372_036_854_775_808,
+        -7,
+        -1,
+        true,
+    ),
+    (
+        Operation::Rem,
+        IntType::ULong,
+        6_327_472_803_458_459_923,
+        16_654_949_847_172_653_441,
+        6_327_472_803_458_459_923,
+        true,
+    ),
+    (
+        Operation::Rem,
+        IntType::LongLong,
+        9_223_372_036_854_775_806,
+        -1,
+        0,
+        true,
+    ),
+    (
+        Operation::Rem,
+        IntType::ULongLong,
+        18_446_744_073_709_551_615,
+        3,
+        0,
+        true,
+    ),
+    (Operation::ShiftLeft, IntType::Bool, 1, 0, 1, true),
+    (Operation::ShiftLeft, IntType::Char, 28, 3, -32, false),
+    (Operation::ShiftLeft, IntType::SChar, 104, 4, -128, false),
+    (Operation::ShiftLeft, IntType::UChar, 177, 0, 177, true),
+    (Operation::ShiftLeft, IntType::Short, -7, 15, -32_768, false),
+    (Operation::ShiftLeft, IntType::UShort, 77, 11, 26_624, false),
+    (
+        Operation::ShiftLeft,
+        IntType::Int,
+        397_481_365,
+        30,
+        1_073_741_824,
+        false,
+    ),
+    (
+        Operation::ShiftLeft,
+        IntType::UInt,
+        4_294_967_294,
+        17,
+        4_294_705_152,
+        false,
+    ),
+    (
+        Operation::ShiftLeft,
+        IntType::Long32,
+        1_562_178_245,
+        20,
+        743_440_384,
+        false,
+    ),
+    (
+        Operation::ShiftLeft,
+        IntType::ULong32,
+        2_058_394_790,
+        31,
+        0,
+        false,
+    ),
+    (Operation::ShiftLeft, IntType::Long, 33, 16, 2_162_688, true),
+    (
+        Operation::ShiftLeft,
+        IntType::ULong,
+        1_749_676_875_002_486_134,
+        57,
+        17_005_592_192_950_992_896,
+        false,
+    ),
+    (
+        Operation::ShiftLeft,
+        IntType::LongLong,
+        9_223_372_036_854_775_806,
+        5,
+        -64,
+        false,
+    ),
+    (Operation::ShiftLeft, IntType::ULongLong, 53, 5, 1696, true),
+    (Operation::ShiftRight, IntType::Bool, 1, 0, 1, true),
+    (Operation::ShiftRight, IntType::Char, 127, 3, 15, true),
+    (Operation::ShiftRight, IntType::SChar, -7, 3, -1, true),
+    (Operation::ShiftRight, IntType::UChar, 54, 5, 1, true),
+    (Operation::ShiftRight, IntType::Short, -7, 13, -1, true),
+    (Operation::ShiftRight, IntType::UShort, 65_535, 7, 511, true),
+    (Operation::ShiftRight, IntType::Int, 1, 16, 0, true),
+    (
+        Operation::ShiftRight,
+        IntType::UInt,
+        4_294_967_294,
+        3,
+        536_870_911,
+        true,
+    ),
+    (Operation::ShiftRight, IntType::Long32, -7, 27, -1, true),
+    (Operation::ShiftRight, IntType::ULong32, 0, 25, 0, true),
+    (Operation::ShiftRight, IntType::Long, 1, 23, 0, true),
+    (Operation::ShiftRight, IntType::ULong, 74, 8, 0, true),
+    (
+        Operation::ShiftRight,
+        IntType::LongLong,
+        3_717_947_748_507_963_419,
+        9,
+        7_261_616_696_304_616,
+        true,
+    ),
+    (Operation::ShiftRight, IntType::ULongLong, 1, 23, 0, true),
+    (Operation::And, IntType::Bool, 1, 0, 0, true),
+    (Operation::And, IntType::Char, 126, 78, 78, true),
+    (Operation::And, IntType::SChar, -127, 1, 1, true),
+    (Operation::And, IntType::UChar, 7, 0, 0, true),
+    (Operation::And, IntType::Short, 1, -14_046, 0, true),
+    (Operation::And, IntType::UShort, 65_534, 0, 0, true),
+    (
+        Operation::And,
+        IntType::Int,
+        -7,
+        2_147_483_647,
+        2_147_483_641,
+        true,
+    ),
+    (Operation::And, IntType::UInt, 2_343_037_204, 66, 0, true),
+    (Operation::And, IntType::Long32, -7, 74, 72, true),
+    (Operation::And, IntType::ULong32, 0, 2_837_725_193, 0, true),
+    (
+        Operation::And,
+        IntType::Long,
+        -1,
+        -9_223_372_036_854_775_808,
+        -9_223_372_036_854_775_808,
+        true,
+    ),
+    (
+        Operation::And,
+        IntType::ULong,
+        0,
+        18_446_744_073_709_551_614,
+        0,
+        true,
+    ),
+    (
+        Operation::And,
+        IntType::LongLong,
+        -7,
+        9_223_372_036_854_775_806,
+        9_223_372_036_854_775_800,
+        true,
+    ),
+    (
+        Operation::And,
+        IntType::ULongLong,
+        11_638_968_396_527_451_060,
+        1_656_659_964_850_888_387,
+        37_612_184_662_186_624,
+        true,
+    ),
+    (Operation::Or, IntType::Bool, 1, 1, 1, true),
+    (Operation::Or, IntType::Char, -118, 1, -117, true),
+    (Operation::Or, IntType::SChar, -30, 1, -29, true),
+    (Operation::Or, IntType::UChar, 0, 233, 233, true),
+    (Operation::Or, IntType::Short, -32_768, 32_766, -2, true),
+    (Operation::Or, IntType::UShort, 0, 33, 33, true),
+    (
+        Operation::Or,
+        IntType::Int,
+        2_147_483_647,
+        21,
+        2_147_483_647,
+        true,
+    ),
+    (Operation::Or, IntType::UInt, 0, 7, 7, true),
+    (Operation::Or, IntType::Long32, 71, 7, 71, true),
+    (
+        Operation::Or,
+        IntType::ULong32,
+        4_294_967_295,
+        7,
+        4_294_967_295,
+        true,
+    ),
+    (
+        Operation::Or,
+        IntType::Long,
+        9_223_372_036_854_775_807,
+        -1,
+        -1,
+        true,
+    ),
+    (Operation::Or, IntType::ULong, 8, 0, 8, true),
+    (
+        Operation::Or,
+        IntType::LongLong,
+        178_926_684_138_732_909,
+        7_907_697_821_533_363_415,
+        8_070_430_601_920_740_863,
+        true,
+    ),
+    (Operation::Or, IntType::ULongLong, 7, 0, 7, true),
+    (Operation::Xor, IntType::Bool, 1, 0, 1, true),
+    (Operation::Xor, IntType::Char, 36, 84, 112, true),
+    (Operation::Xor, IntType::SChar, 59, -7, -62, true),
+    (Operation::Xor, IntType::UChar, 225, 140, 109, true),
+    (Operation::Xor, IntType::Short, -1, 1, -2, true),
+    (Operation::Xor, IntType::UShort, 65_534, 0, 65_534, true),
+    (
+        Operation::Xor,
+        IntType::Int,
+        -497_745_191,
+        -7,
+        497_745_184,
+        true,
+    ),
+    (
+        Operation::Xor,
+        IntType::UInt,
+        2_366_200_476,
+        3_343_150_889,
+        1_246_574_005,
+        true,
+    ),
+    (
+        Operation::Xor,
+        IntType::Long32,
+        -2_147_483_647,
+        22,
+        -2_147_483_625,
+        true,
+    ),
+    (Operation::Xor, IntType::ULong32, 8, 7, 15, true),
+    (
+        Operation::Xor,
+        IntType::Long,
+        -9_223_372_036_854_775_807,
+        8_873_577_933_317_026_173,
+        -349_794_103_537_749_636,
+        true,
+    ),
+    (
+        Operation::Xor,
+        IntType::ULong,
+        18_446_744_073_709_551_614,
+        8,
+        18_446_744_073_709_551_606,
+        true,
+    ),
+    (
+        Operation::Xor,
+        IntType::LongLong,
+        -9_223_372_036_854_775_807,
+        -4_359_851_637_213_241_366,
+        4_863_520_399_641_534_443,
+        true,
+    ),
+    (Operation::Xor, IntType::ULongLong, 0, 0, 0, true),
+    (Operation::Not, IntType::Bool, 1, 0, 0, true),
+    (Operation::Not, IntType::Char, 45, 0, -46, true),
+    (Operation::Not, IntType::SChar, -128, 0, 127, true),
+    (Operation::Not, IntType::UChar, 255, 0, 0, true),
+    (Operation::Not, IntType::Short, -32_767, 0, 32_766, true),
+    (Operation::Not, IntType::UShort, 65_535, 0, 0, true),
+    (
+        Operation::Not,
+        IntType::Int,
+        2_147_483_646,
+        0,
+        -2_147_483_647,
+        true,
+    ),
+    (Operation::Not, IntType::UInt, 4_294_967_294, 0, 1, true),
+    (Operation::Not, IntType::Long32, -7, 0, 6, true),
+    (Operation::Not, IntType::ULong32, 4_294_967_295, 0, 0, true),
+    (Operation::Not, IntType::Long, 67, 0, -68, true),
+    (
+        Operation::Not,
+        IntType::ULong,
+        8,
+        0,
+        18_446_744_073_709_551_607,
+        true,
+    ),
+    (
+        Operation::Not,
+        IntType::LongLong,
+        -9_223_372_036_854_775_808,
+        0,
+        9_223_372_036_854_775_807,
+        true,
+    ),
+    (
+        Operation::Not,
+        IntType::ULongLong,
+        17_566_965_450_655_786_532,
+        0,
+        879_778_623_053_765_083,
+        true,
+    ),
+    (Operation::Add, IntType::Char, 127, 1, -128, false),
+    (Operation::Mul, IntType::Char, 127, 127, 1, false),
+    (Operation::Div, IntType::Char, -128, -1, -128, false),
+    (Operation::Add, IntType::SChar, 127, 1, -128, false),
+    (Operation::Mul, IntType::SChar, 127, 127, 1, false),
+    (Operation::Div, IntType::SChar, -128, -1, -128, false),
+    (Operation::Add, IntType::UChar, 255, 1, 0, false),
+    (Operation::Mul, IntType::UChar, 255, 255, 1, false),
+    (Operation::Div, IntType::UChar, 0, 3, 0, true),
+    (Operation::Add, IntType::Short, 32_767, 1, -32_768, false),
+    (Operation::Mul, IntType::Short, 32_767, 32_767, 1, false),
+    (Operation::Div, IntType::Short, -32_768, -1, -32_768, false),
+    (Operation::Add, IntType::UShort, 65_535, 1, 0, false),
+    (Operation::Mul, IntType::UShort, 65_535, 65_535, 1, false),
+    (Operation::Div, IntType::UShort, 0, 3, 0, true),
+    (
+        Operation::Add,
+        IntType::Int,
+        2_147_483_647,
+        1,
+        -2_147_483_648,
+        false,
+    ),
+    (
+        Operation::Mul,
+        IntType::Int,
+        2_147_483_647,
+        2_147_483_647,
+        1,
+        false,
+    ),
+    (
+        Operation::Div,
+        IntType::Int,
+        -2_147_483_648,
+        -1,
+        -2_147_483_648,
+        false,
+    ),
+    (Operation::Add, IntType::UInt, 4_294_967_295, 1, 0, false),
+    (
+        Operation::Mul,
+        IntType::UInt,
+        4_294_967_295,
+        4_294_967_295,
+        1,
+        false,
+    ),
+    (Operation::Div, IntType::UInt, 0, 3, 0, true),
+    (
+        Operation::Add,
+        IntType::Long32,
+        2_147_483_647,
+        1,
+        -2_147_483_648,
+        false,
+    ),
+    (
+        Operation::Mul,
+        IntType::Long32,
+        2_147_483_647,
+        2_147_483_647,
+        1,
+        false,
+    ),
+    (
+        Operation::Div,
+        IntType::Long32,
+        -2_147_483_648,
+        -1,
+        -2_147_483_648,
+        false,
+    ),
+    (Operation::Add, IntType::ULong32, 4_294_967_295, 1, 0, false),
+    (
+        Operation::Mul,
+        IntType::ULong32,
+        4_294_967_295,
+        4_294_967_295,
+        1,
+        false,
+    ),
+    (Operation::Div, IntType::ULong32, 0, 3, 0, true),
+    (
+        Operation::Add,
+        IntType::Long,
+        9_223_372_036_854_775_807,
+        1,
+        -9_223_372_036_854_775_808,
+        false,
+    ),
+    (
+        Operation::Mul,
+        IntType::Long,
+        9_223_372_036_854_775_807,
+        9_223_372_036_854_775_807,
+        1,
+        false,
+    ),
+    (
+        Operation::Div,
+        IntType::Long,
+        -9_223_372_036_854_775_808,
+        -1,
+        -9_223_372_036_854_775_808,
+        false,
+    ),
+    (
+        Operation::Add,
+        IntType::ULong,
+        18_446_744_073_709_551_615,
+        1,
+        0,
+        false,
+    ),
+    (
+        Operation::Mul,
+        IntType::ULong,
+        18_446_744_073_709_551_615,
+        18_446_744_073_709_551_615,
+        1,
+        false,
+    ),
+    (Operation::Div, IntType::ULong, 0, 3, 0, true),
+    (
+        Operation::Add,
+        IntType::LongLong,
+        9_223_372_036_854_775_807,
+        1,
+        -9_223_372_036_854_775_808,
+        false,
+    ),
+    (
+        Operation::Mul,
+        IntType::LongLong,
+        9_223_372_036_854_775_807,
+        9_223_372_036_854_775_807,
+        1,
+        false,
+    ),
+    (
+        Operation::Div,
+        IntType::LongLong,
+        -9_223_372_036_854_775_808,
+        -1,
+        -9_223_372_036_854_775_808,
+        false,
+    ),
+    (
+        Operation::Add,
+        IntType::ULongLong,
+        18_446_744_073_709_551_615,
+        1,
+        0,
+        false,
+    ),
+    (
+        Operation::Mul,
+        IntType::ULongLong,
+        18_446_744_073_709_551_615,
+        18_446_744_073_709_551_615,
+        1,
+        false,
+    ),
+    (Operation::Div, IntType::ULongLong, 0, 3, 0, true),
+    (
+        Operation::Mul,
+        IntType::Int,
+        2_147_483_646,
+        2_147_483_646,
+        4,
+        false,
+    ),
+    (Operation::Xor, IntType::ULong32, 7, 1, 6, true),
+    (Operation::Sub, IntType::ULongLong, 1, 1, 0, true),
+    (
+        Operation::Not,
+        IntType::UInt,
+        1_227_070_371,
+        0,
+        3_067_896_924,
+        true,
+    ),
+    (
+        Operation::Xor,
+        IntType::Long,
+        9_223_372_036_854_775_807,
+        9_223_372_036_854_775_806,
+        1,
+        true,
+    ),
+    (
+        Operation::And,
+        IntType::Long32,
+        -7,
+        -2_147_483_648,
+        -2_147_483_648,
+        true,
+    ),
+    (
+        Operation::Xor,
+        IntType::ULong32,
+        4_185_643_600,
+        3_338_516_964,
+        1_065_771_956,
+        true,
+    ),
+];
