@@ -5,7 +5,7 @@ use Rattle.std.specs.Str.Parse.{AllDigits, IsNumeral, digits_value, without_lead
 use Rattle.std.specs.Cmp.Lexicographic.{pointwise}
 use Rattle.std.proofs.lemmas.Slice.Eq.{bytes_eq-Decides}
 use Rattle.std.proofs.lemmas.Fmt.{decimal-digits_value}
-use Rattle.std.proofs.lemmas.List.{append-nil, map-append, length-append}
+use Rattle.std.proofs.lemmas.List.{append-nil, map-append}
 use Rattle.std.proofs.Math.Seq.{take-length}
 use Rattle.std.proofs.lemmas.Str.Parse.{IsNumeralModel, numerals_by_value, tells_digits, without_leading_plus_none}
 use Rattle.c_model.specs.declared.program.Addend.{Addend}
@@ -28,9 +28,6 @@ reads_first text (first ∷ rest) none some same =
     let all : take (length (first ∷ rest) - 1) rest ≡ rest = ap (λ n. take n rest) count ∙ take-length rest in
     reads_one text first (first ∷ rest) _ (ap (λ xs. first ∷ xs) (sym all)) ((bytes_eq-Decides (token_of first).text text).0 (sym same))
 
-pub reads_nothing : (before after : List Lexeme) → before ≡ after → Reads [] before after
-reads_nothing before after e = record { own = []; all = e; spelled = refl }
-
 pub reads_then : {one two : List (List ℕ)} {before between after : List Lexeme} → Reads one before between → Reads two between after → Reads (one ++ two) before after
 reads_then {one} {two} {before} {between} {after} first second = record {
   own = first.own ++ second.own;
@@ -48,14 +45,6 @@ pub reads_addend : (made after_made : List Addend) (addend : Addend) (before fir
 reads_addend made after_made addend before first second after em so_far sign operand =
     let P : List (List ℕ) → Type 0 = λ ts. Reads ts before after in
     subst P (sym (ap addend_texts em ∙ addend_texts-push made addend)) (reads_then so_far (reads_then sign operand))
-
--- what is read is shorter by what was taken
-pub reads_shorter : {word : List ℕ} {words : List (List ℕ)} {before after : List Lexeme} → Reads (word ∷ words) before after → length after < length before
-reads_shorter {word} {words} {before} {after} reads = shorter reads.own reads.all reads.spelled
-  where
-    shorter : (own : List Lexeme) → before ≡ own ++ after → texts (seen own) ≡ word ∷ words → length after < length before
-    shorter [] e spelled = absurd (cc)
-    shorter (lexeme ∷ own) e spelled = let all : length before ≡ length ((lexeme ∷ own) ++ after) = ap length e in omega (arith, length-append (lexeme ∷ own) after)
 
 -- ---- items
 
@@ -95,16 +84,6 @@ reads_more_items items after_items item before between after ei so_far one =
       all = so_far.all ∙ ap (λ rest. so_far.own ++ rest) one.all ∙ sym (append_assoc so_far.own one.own after);
       are = subst Q (sym ei) (subst P (sym (map-append token_of so_far.own one.own)) (are_items-push (seen so_far.own) (seen one.own) items item so_far.are one.is));
     }
-
-pub reads_no_item : (before : List Lexeme) → ReadsItems [] before before
-reads_no_item before = record { own = []; all = refl; are = refl }
-
-pub item_shorter : {item : BlockItem} {before after : List Lexeme} → ReadsItem item before after → length after < length before
-item_shorter {item} {before} {after} reads = shorter reads.own reads.all reads.is.begins
-  where
-    shorter : (own : List Lexeme) → before ≡ own ++ after → seen own ≡ reads.is.first ∷ reads.is.rest → length after < length before
-    shorter [] e begins = absurd (cc)
-    shorter (lexeme ∷ own) e begins = let all : length before ≡ length ((lexeme ∷ own) ++ after) = ap length e in omega (arith, length-append (lexeme ∷ own) after)
 
 -- ---- numbers
 
