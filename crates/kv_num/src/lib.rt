@@ -1,6 +1,7 @@
 //! Typed numbers: the integer types of C, and their arithmetic as whole numbers with a range test.
 //!
 //! A number of a type is an `i128` in the type's range. No call takes memory, and none can fail.
+//! Sections are those of C11 (ISO/IEC 9899:2011).
 #![tactic(auto)]
 
 mod arithmetic;
