@@ -1,0 +1,9 @@
+//! Runs the C machine of `c_model`, step by step.
+#![tactic(auto)]
+
+mod control;
+mod machine;
+mod run;
+mod values;
+
+pub use run::{RunEnd, replay};

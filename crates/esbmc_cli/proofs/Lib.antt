@@ -1,0 +1,5 @@
+pub mod Growth
+pub mod Opened
+pub mod EarlyTokens
+pub mod EarlyGrammar
+pub mod EarlyNames

@@ -1,0 +1,37 @@
+-- What is found of a named file.
+use Rattle.std.specs.Prelude.{ℕ, List, []}
+use Rattle.std.specs.declared.option.Option.{Option}
+use Rattle.kv_port.specs.Folder.{Folder, Lacks}
+use Rattle.c_model.specs.declared.checks.CheckKind.{CheckKind}
+use Rattle.c_model.specs.declared.program.Program.{Program}
+use Rattle.c_model.specs.Machine.{Breaks, Safe}
+use Rattle.c_model.specs.Early.{Early}
+use Rattle.esbmc_cli.specs.declared.decide.Decided.{Decided}
+use Rattle.esbmc_cli.specs.declared.decide.Decided.TheVariants.{Successful, Failed, NotYet, Missing, ReadFault, NoMemory}
+use Rattle.esbmc_cli.specs.Source.{Holds, HasFile}
+
+-- the bytes spell a straight program of which no inputs break a check
+abbrev pub SpellsSafe : List ℕ → Type 0
+SpellsSafe source = (program : Program) × Early source program × Safe program
+
+-- the bytes spell a straight program that breaks this check at this line
+abbrev pub SpellsBroken : CheckKind → ℕ → List ℕ → Type 0
+SpellsBroken check line source = (program : Program) × Early source program × Breaks program [] check line
+
+-- what is found of these bytes
+abbrev pub IsRightOf : List ℕ → Decided → Type 0
+IsRightOf source Successful = SpellsSafe source
+IsRightOf source (Failed check line) = SpellsBroken check line source
+IsRightOf source NotYet = Unit {0}
+IsRightOf source Missing = ⊥
+IsRightOf source ReadFault = ⊥
+IsRightOf source NoMemory = Unit {0}
+
+-- what is found of the file of this name, where a fault of the folder is this
+abbrev pub IsRight : Option Folder → List ℕ → Type 0 → Decided → Type 0
+IsRight told name fault Successful = (source : List ℕ) × Holds told name source × SpellsSafe source
+IsRight told name fault (Failed check line) = (source : List ℕ) × Holds told name source × SpellsBroken check line source
+IsRight told name fault NotYet = HasFile told name (λ source. Unit {0})
+IsRight told name fault Missing = Lacks told name
+IsRight told name fault ReadFault = fault
+IsRight told name fault NoMemory = Unit {0}

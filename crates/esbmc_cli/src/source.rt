@@ -1,0 +1,75 @@
+//! The named file, read whole.
+
+ghost use Rattle.std.specs.Prelude.{◌≡◌, ◌<◌, ◌≤◌, length, true, IfOk, IsSome, Err};
+ghost use Rattle.std.specs.Option.{ForSome};
+ghost use Rattle.std.specs.FinMap.{get};
+ghost use Rattle.kv_port.specs.Causes.{Rose};
+ghost use Rattle.kv_port.specs.Folder.{Lacks};
+ghost use Rattle.esbmc_cli.specs.Source.{Holds, HasFile};
+
+use kv_port::Files;
+use std::alloc::Global;
+
+/// The longest file that is read, in bytes.
+const MAX_BYTES: usize = 65_536;
+
+/// How many bytes are asked for at a time.
+const PIECE: usize = 4_096;
+
+/// Why a file isn't read.
+#[derive(Clone, Copy, Debug, PartialEq, Eq)]
+pub enum Unread {
+    /// The folder has no such name.
+    Missing,
+    /// A call of the folder failed.
+    Fault,
+    /// The file has more bytes than are read.
+    TooLong,
+    /// Memory was refused.
+    NoMemory,
+}
+
+// The bytes of the open file, up to one past the longest.
+fn read_open<F: Files>(alloc: Global, files: &mut F) -> Result<Vec<u8>, Unread>
+    requires { F.is_open files.old ≡ true }
+    ensures content { IfOk result (λ bytes. ForSome (F.left files.old) (λ left. left ≡ bytes.items)) }
+    ensures size { IfOk result (λ bytes. length bytes.items ≤ 65536) }
+    ensures folder { F.told files.new ≡ F.told files.old }
+    ensures later { F.faults files.old ≤ F.faults files.new }
+    ensures fault { result ≡ Err Unread.Fault → Rose (F.faults files.old) (F.faults files.new) }
+    ensures found { result ≡ Err Unread.Missing → ⊥ }
+    ensures too_long { result ≡ Err Unread.TooLong → ForSome (F.left files.old) (λ left. 65536 < length left) }
+{
+    let mut bytes = Vec::new(alloc);
+    let mut buffer = [0u8; PIECE];
+    'pieces: while bytes.len() <= MAX_BYTES {
+        let room = PIECE.min(MAX_BYTES + 1 - bytes.len());
+        match files.read(&mut buffer[..room]) {
+            Err(_) => return Err(Unread::Fault),
+            Ok(0) => return Ok(bytes),
+            Ok(count) => {
+                if bytes.extend_from_slice(&buffer[..count]).is_err() {
+                    return Err(Unread::NoMemory);
+                }
+            }
+        }
+    }
+    Err(Unread::TooLong)
+}
+
+/// The bytes of the named file.
+pub fn read_file<F: Files>(alloc: Global, files: &mut F, name: &str) -> Result<Vec<u8>, Unread>
+    ensures content { IfOk result (λ bytes. Holds (F.told files.old) name.now bytes.items) }
+    ensures size { IfOk result (λ bytes. length bytes.items ≤ 65536) }
+    ensures folder { F.told files.new ≡ F.told files.old }
+    ensures later { F.faults files.old ≤ F.faults files.new }
+    ensures fault { result ≡ Err Unread.Fault → Rose (F.faults files.old) (F.faults files.new) }
+    ensures missing { result ≡ Err Unread.Missing → Lacks (F.told files.old) name.now }
+    ensures too_long { result ≡ Err Unread.TooLong → HasFile (F.told files.old) name.now (λ source. 65536 < length source) }
+{
+    match files.open(name) {
+        Err(_) => Err(Unread::Fault),
+        Ok(false) => Err(Unread::Missing),
+        Ok(true) => read_open(alloc, files),
+    }
+}
