@@ -3,10 +3,10 @@
 
 use esbmc_cli::run_alone;
 use kv_port::{StdFiles, StdSink};
+use std::env;
 use std::io::{self, ErrorKind};
 use std::process::ExitCode;
 use std::rt::Env;
-use std::env;
 
 /// The words after the program's name. None are taken where one isn't UTF-8: such a line names no file.
 fn words<R: Env + AllocGlobal>(rt: &R) -> io::Result<Vec<String>> {

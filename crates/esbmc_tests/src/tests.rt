@@ -28,9 +28,17 @@ fn verdicts_and_their_texts(rt: HostRuntime) -> Result<(), Fail> {
             1,
             b"violated: assertion at line 5\nVERIFICATION FAILED\n",
         ),
-        (b"int main(void){while(1);return 0;}", 5, b"error: not yet\n"),
+        (
+            b"int main(void){while(1);return 0;}",
+            5,
+            b"error: not yet\n",
+        ),
         (b"int main(void){int x=x;return 0;}", 5, b"error: not yet\n"),
-        (b"int main(void){int x=2147483648;return 0;}", 5, b"error: not yet\n"),
+        (
+            b"int main(void){int x=2147483648;return 0;}",
+            5,
+            b"error: not yet\n",
+        ),
         (b"", 5, b"error: not yet\n"),
     ];
     for (text, status, printed) in cases {
