@@ -1,0 +1,23 @@
+//! Literals, clauses and their truth; the template of one block of a program, its blocks, and the queries over them.
+//!
+//! Lists are `kv_base::Sequence`s. A call that takes memory is given the allocator first, and answers
+//! `NoMemory` where there is none.
+#![tactic(auto)]
+
+mod below;
+mod block;
+mod blocks;
+mod bound;
+mod literal;
+mod plain;
+mod template;
+mod truth;
+
+pub use below::{are_below, bounds_are_below, clauses_are_below, sites_are_below};
+pub use block::{Block, shift};
+pub use blocks::Blocks;
+pub use bound::{Bound, BoundLit, BoundLits, Bounds};
+pub use literal::{Clause, Clauses, Cnf, Lit, Lits, Log};
+pub use plain::PlainBlocks;
+pub use template::{Site, Sites, Template};
+pub use truth::{Assignment, holds};
