@@ -1,2 +1,4 @@
-pub mod Literals
 pub mod Blocks
+pub mod Literals
+pub mod Names
+pub mod Queries

@@ -10,6 +10,7 @@ mod blocks;
 mod bound;
 mod literal;
 mod plain;
+mod query;
 mod template;
 mod truth;
 
@@ -19,5 +20,6 @@ pub use blocks::Blocks;
 pub use bound::{Bound, BoundLit, BoundLits, Bounds};
 pub use literal::{Clause, Clauses, Cnf, Lit, Lits, Log};
 pub use plain::PlainBlocks;
+pub use query::Query;
 pub use template::{Site, Sites, Template};
 pub use truth::{Assignment, holds};

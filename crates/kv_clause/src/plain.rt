@@ -35,7 +35,7 @@ impl PlainBlocks {
     }
 
     // Makes the blocks up to the one at i.
-    fn fill(&mut self, i: u32)  -> Result<(), NoMemory>
+    fn fill(&mut self, i: u32) -> Result<(), NoMemory>
         requires { i < self.old.blocks }
         ensures template { self.new.template ≡ self.old.template }
         ensures blocks { self.new.blocks ≡ self.old.blocks }

@@ -1,0 +1,89 @@
+-- The queries over a template's blocks. Each contains the clauses of its blocks, that its beginning is a start or
+-- a loop head, and what it asks of its blocks; what a prover may assume instead of adding is kept apart.
+use Rattle.std.specs.Prelude.{ℕ, zero, suc, ◌+◌, ◌-◌, ◌*◌, Bool, true, false, ◌&&◌, ◌==◌, if◌then◌else◌, List, [], ◌∷◌, ◌++◌, map}
+use Rattle.std.specs.List.{list_any}
+use Rattle.std.specs.Ordering.{int_eq}
+use Rattle.kv_clause.specs.Literals.{complement_of}
+use Rattle.kv_clause.specs.Blocks.{stride, literal_in, block_of}
+use Rattle.kv_clause.specs.declared.template.Template.{Template}
+use Rattle.kv_clause.specs.declared.bound.Bound.{Bound}
+use Rattle.kv_clause.specs.declared.bound.BoundLit.{BoundLit}
+use Rattle.kv_clause.specs.declared.query.Query.{Query}
+use Rattle.kv_clause.specs.declared.query.Query.TheVariants.{Base, Forward, Step, First, Induct, Closing}
+
+-- the clauses of blocks 0 to k - 1
+abbrev pub blocks_of : Template → ℕ → List (List ℕ)
+blocks_of T zero = []
+blocks_of T (suc k) = blocks_of T k ++ block_of T k
+
+-- how many variables k blocks have
+abbrev pub vars_of : Template → ℕ → ℕ
+vars_of T k = T.state + k * stride T
+
+-- blocks 0 to k - 1 arrive
+abbrev pub arrivals : Template → ℕ → List ℕ
+arrivals T zero = []
+arrivals T (suc k) = arrivals T k ++ literal_in T k T.next ∷ []
+
+abbrev pub is_same : Bound → Bound → Bool
+is_same a b = (a.head == b.head) && (a.cell == b.cell) && (if a.at_least then b.at_least else (if b.at_least then false else true)) && int_eq a.number b.number
+
+abbrev pub has_bound : List Bound → Bound → Bool
+has_bound bs b = list_any (is_same b) bs
+
+-- the literals of the candidates that stand among the bounds, in the candidates' order
+abbrev pub lits_of : List BoundLit → List Bound → List ℕ
+lits_of [] bs = []
+lits_of (c ∷ cs) bs = if has_bound bs c.bound then c.lit ∷ lits_of cs bs else lits_of cs bs
+
+-- the bounds hold at the beginning of block i
+abbrev pub bounds_at : Template → List Bound → ℕ → List ℕ
+bounds_at T bs i = map (literal_in T i) (lits_of T.bounds bs)
+
+-- the bounds hold at the beginnings of blocks 0 to k - 1
+abbrev pub bounds_before : Template → List Bound → ℕ → List ℕ
+bounds_before T bs zero = []
+bounds_before T bs (suc k) = bounds_before T bs k ++ bounds_at T bs k
+
+-- each literal as a clause of its own
+abbrev pub units : List ℕ → List (List ℕ)
+units ls = map (λ l. l ∷ []) ls
+
+-- blocks 0 to k - 2 arrive and block k - 1 breaks
+abbrev pub breaks_last : Template → ℕ → List ℕ
+breaks_last T k = arrivals T (k - 1) ++ literal_in T (k - 1) T.broken ∷ []
+
+-- block 0 arrives, and some bound of the set is false at the arrival
+abbrev pub leaves_set : Template → List Bound → List (List ℕ)
+leaves_set T bs = units (arrivals T 1) ++ map complement_of (bounds_at T bs 1) ∷ []
+
+-- the clauses of a query that are no asked literals
+abbrev pub fixed : Template → Query → List (List ℕ)
+fixed T (Base k) = T.start ++ blocks_of T k
+fixed T (Forward k) = T.start ++ blocks_of T k
+fixed T (Step k under) = T.head ++ blocks_of T k
+fixed T (First round bs) = T.start ++ blocks_of T 2 ++ leaves_set T bs
+fixed T (Induct round bs) = T.head ++ blocks_of T 2 ++ units (bounds_at T bs 0) ++ leaves_set T bs
+fixed T (Closing k under) = T.head ++ blocks_of T k
+
+-- the literals of a query that a solver may assume
+abbrev pub asked : Template → Query → List ℕ
+asked T (Base k) = breaks_last T k
+asked T (Forward k) = arrivals T k
+asked T (Step k under) = bounds_before T under k ++ breaks_last T k
+asked T (First round bs) = []
+asked T (Induct round bs) = []
+asked T (Closing k under) = bounds_before T under k ++ breaks_last T k
+
+-- all clauses of a query
+abbrev pub query : Template → Query → List (List ℕ)
+query T q = fixed T q ++ units (asked T q)
+
+-- how many blocks a query has
+abbrev pub blocks_in : Query → ℕ
+blocks_in (Base k) = k
+blocks_in (Forward k) = k
+blocks_in (Step k under) = k
+blocks_in (First round bs) = 2
+blocks_in (Induct round bs) = 2
+blocks_in (Closing k under) = k
