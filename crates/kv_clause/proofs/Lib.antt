@@ -1,0 +1,3 @@
+pub mod Propagation
+pub mod Queries
+pub mod Truths

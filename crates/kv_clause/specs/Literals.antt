@@ -38,3 +38,15 @@ AreBelow n c = All (λ l. variable_of l < n) c
 
 abbrev pub ClausesAreBelow : ℕ → List (List ℕ) → Type 0
 ClausesAreBelow n F = All (AreBelow n) F
+
+-- two assignments give the variables below n the same truths
+abbrev pub AgreeBelow : ℕ → (ℕ → Bool) → (ℕ → Bool) → Type 0
+AgreeBelow n A B = (v : ℕ) → v < n → A v ≡ B v
+
+-- the truths from the variable n on, as those of variables from 0 on
+abbrev pub later : ℕ → (ℕ → Bool) → ℕ → Bool
+later n A v = A (v + n)
+
+-- each literal is true
+abbrev pub AreTrue : (ℕ → Bool) → List ℕ → Type 0
+AreTrue A ls = list_all (is_true A) ls ≡ true
