@@ -1,3 +1,5 @@
+pub mod Counting
 pub mod Propagation
 pub mod Queries
+pub mod Ranges
 pub mod Truths

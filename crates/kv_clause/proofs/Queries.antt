@@ -1,13 +1,13 @@
 -- Laws of blocks and queries.
-use Rattle.std.proofs.Common.{ℕ, zero, suc, ◌≡◌, ◌+◌, ◌-◌, ◌*◌, ◌/◌, ◌<◌, ◌≤◌, ◌++◌, List, [], ◌∷◌, map, length, Bool, true, false, ◌&&◌, refl, sym, ap, subst, ◌∙◌, arith, inl, inr, take, get_or}
+use Rattle.std.proofs.Common.{ℕ, zero, suc, ◌≡◌, ◌+◌, ◌-◌, ◌*◌, ◌/◌, ◌<◌, ◌≤◌, ◌++◌, List, [], ◌∷◌, map, length, Bool, true, false, ◌&&◌, refl, sym, ap, subst, ◌∙◌, arith, inl, inr, take, add-one}
 use Rattle.std.proofs.lemmas.Bool.{cases_eq}
 use Rattle.std.proofs.lemmas.List.Elements.{All-nil, All-append, All-map, All-weaker}
-use Rattle.kv_clause.specs.Literals.{variable_of, moved, is_true, all_hold, MeetsAll, AreTrue, AreBelow, ClausesAreBelow, AgreeBelow, later}
+use Rattle.kv_clause.specs.Literals.{variable_of, moved, is_true, all_hold, MeetsAll, AreTrue, AreBelow, ClausesAreBelow, later, truths}
 use Rattle.kv_clause.specs.Blocks.{stride, literal_in, variable_in, clauses_in, block_of}
 use Rattle.kv_clause.specs.Queries.{blocks_of, vars_of, arrivals, units, fixed, asked, query}
 use Rattle.kv_clause.specs.declared.template.Template.{Template}
 use Rattle.kv_clause.specs.declared.query.Query.{Query}
-use Rattle.kv_clause.proofs.Truths.{met_left, met_right, met_both, true_left, true_right, true_both, units_hold, all_moved, literal_moved}
+use Rattle.kv_clause.proofs.Truths.{met_left, met_right, met_both, true_left, true_right, true_both, units_hold, all_moved, literal_moved, all_local, truths_cut}
 
 -- an assignment meets a query where it meets the fixed clauses and the asked literals are true
 pub query_parts : (A : ℕ → Bool) (T : Template) (q : Query) → MeetsAll A (query T q) → MeetsAll A (fixed T q) × AreTrue A (asked T q)
@@ -85,13 +85,33 @@ module _ (T : Template) where
       further : (s j : ℕ) → s + j + i * s ≡ j + (i + 1) * s
       further s j = grind arith
 
-  -- a block's variables are those below vars_of
-  block_below : (i : ℕ) → ClausesAreBelow (vars_of T (i + 1)) (block_of T i)
+  further_below : (vars state i l : ℕ) → state ≤ vars → l / 2 < vars → (l + 2 * (i * (vars - state))) / 2 < state + (i + 1) * (vars - state)
+  further_below vars state i l h k = grind arith
+
+  -- what a literal of the template is in block i is over the variables of i + 1 blocks
+  pub literal_below : (i l : ℕ) → variable_of l < T.vars → variable_of (literal_in T i l) < vars_of T (i + 1)
+  literal_below i l h = let room = T.room in further_below T.vars T.state i l (omega arith) h
+
+  pub literals_below : (i : ℕ) (ls : List ℕ) → AreBelow T.vars ls → AreBelow (vars_of T (i + 1)) (map (literal_in T i) ls)
+  literals_below i ls h = All-map (λ l. variable_of l < vars_of T (i + 1)) (literal_in T i) ls
+      (All-weaker (λ l. variable_of l < T.vars) (λ l. variable_of (literal_in T i l) < vars_of T (i + 1)) (λ l b. literal_below i l b) ls h)
+
+  pub block_below : (i : ℕ) → ClausesAreBelow (vars_of T (i + 1)) (block_of T i)
   block_below i = All-map (AreBelow (vars_of T (i + 1))) (λ c. map (literal_in T i) c) T.clauses
-      (All-weaker (AreBelow T.vars) (λ c. AreBelow (vars_of T (i + 1)) (map (literal_in T i) c)) (λ c h. clause_below c h) T.clauses T.clauses_below)
-    where
-      further : (vars state i l : ℕ) → state ≤ vars → l / 2 < vars → (l + 2 * (i * (vars - state))) / 2 < state + (i + 1) * (vars - state)
-      further vars state i l h k = grind arith
-      clause_below : (c : List ℕ) → AreBelow T.vars c → AreBelow (vars_of T (i + 1)) (map (literal_in T i) c)
-      clause_below c h = let room = T.room in All-map (λ l. variable_of l < vars_of T (i + 1)) (literal_in T i) c
-          (All-weaker (λ l. variable_of l < T.vars) (λ l. variable_of (literal_in T i l) < vars_of T (i + 1)) (λ l b. further T.vars T.state i l (omega arith) b) c h)
+      (All-weaker (AreBelow T.vars) (λ c. AreBelow (vars_of T (i + 1)) (map (literal_in T i) c)) (λ c h. literals_below i c h) T.clauses T.clauses_below)
+
+  pub more_below : (m n : ℕ) (F : List (List ℕ)) → m ≤ n → ClausesAreBelow m F → ClausesAreBelow n F
+  more_below m n F h below = All-weaker (AreBelow m) (AreBelow n) (λ c b. All-weaker (λ l. variable_of l < m) (λ l. variable_of l < n) (λ l v. omega arith) c b) F below
+
+  further_vars : (state k s : ℕ) → state + k * s ≤ state + (k + 1) * s
+  further_vars state k s = grind arith
+
+  -- the clauses of k blocks are over the variables of k blocks
+  pub blocks_below : (k : ℕ) → ClausesAreBelow (vars_of T k) (blocks_of T k)
+  blocks_below zero = All-nil (AreBelow (vars_of T zero))
+  blocks_below (suc k) = subst (λ (n : ℕ). ClausesAreBelow (vars_of T n) (blocks_of T k ++ block_of T k)) (add-one k)
+      (All-append (AreBelow (vars_of T (k + 1))) (blocks_of T k) (block_of T k) (more_below (vars_of T k) (vars_of T (k + 1)) (blocks_of T k) (further_vars T.state k (stride T)) (blocks_below k)) (block_below k))
+
+  -- an assignment of more blocks, cut to the variables of fewer, meets their clauses
+  pub blocks_cut : (a : List Bool) (k n : ℕ) → k ≤ n → MeetsAll (truths a) (blocks_of T n) → MeetsAll (truths (take (vars_of T k) a)) (blocks_of T k)
+  blocks_cut a k n h m = all_local (vars_of T k) (truths (take (vars_of T k) a)) (truths a) (truths_cut (vars_of T k) a) (blocks_of T k) (blocks_below k) ∙ blocks_fewer (truths a) k n h m

@@ -1,5 +1,5 @@
 -- The truth of literals, clauses and lists of clauses.
-use Rattle.std.proofs.Common.{ℕ, zero, suc, ◌≡◌, ◌≢◌, ◌+◌, ◌-◌, ◌*◌, ◌/◌, ◌%◌, ◌<◌, ◌≤◌, ◌++◌, List, [], ◌∷◌, map, length, get_or, Bool, true, false, not, ◌&&◌, ◌||◌, cond, eqb, ◌==◌, if◌then◌else◌, refl, sym, ap, subst, ◌∙◌, arith, inl, inr}
+use Rattle.std.proofs.Common.{ℕ, zero, suc, ◌≡◌, ◌≢◌, ◌+◌, ◌-◌, ◌*◌, ◌/◌, ◌%◌, ◌<◌, ◌≤◌, ◌++◌, List, [], ◌∷◌, map, length, get_or, Bool, true, false, not, ◌&&◌, ◌||◌, cond, eqb, ◌==◌, if◌then◌else◌, refl, sym, ap, subst, ◌∙◌, arith, inl, inr, take}
 use Rattle.std.specs.List.{Contains, All, AllPass, list_any, list_all}
 use Rattle.std.specs.Prelude.{slice_index_or}
 use Rattle.std.proofs.lemmas.Bool.{cases_eq, cases_Bool, eq-eqb, ne_eqb}
@@ -7,7 +7,7 @@ use Rattle.std.proofs.lemmas.List.{get_or_default}
 use Rattle.std.proofs.lemmas.List.Elements.{All-head, All-tail}
 use Rattle.std.proofs.lemmas.List.Folds.{list_any_at, list_all-append}
 use Rattle.std.proofs.lemmas.List.Sums.{AllPass-from_list_all, list_all-from_AllPass}
-use Rattle.kv_clause.specs.Literals.{variable_of, complement_of, moved, is_true, clause_holds, all_hold, MeetsAll, AreTrue, AreBelow, ClausesAreBelow, AgreeBelow, later}
+use Rattle.kv_clause.specs.Literals.{variable_of, complement_of, moved, is_true, clause_holds, all_hold, MeetsAll, AreTrue, AreBelow, ClausesAreBelow, AgreeBelow, later, truths}
 use Rattle.kv_clause.specs.Propagation.{clause_at}
 use Rattle.kv_clause.specs.Queries.{units}
 
@@ -49,6 +49,10 @@ true_literal A (x ∷ xs) e = elim (cases_Bool (is_true A x)) [
 
 pub holds-from_literal : (A : ℕ → Bool) (c : List ℕ) (l : ℕ) → Contains c l → is_true A l ≡ true → clause_holds A c ≡ true
 holds-from_literal A c l h e = list_any_at (is_true A) c h.0 l h.1 (ap (is_true A) h.2 ∙ e)
+
+-- literals that are all true are true each
+pub true_each : (A : ℕ → Bool) (ls : List ℕ) → AreTrue A ls → (l : ℕ) → Contains ls l → is_true A l ≡ true
+true_each A ls m l h = ap (is_true A) (sym h.2) ∙ AllPass-from_list_all (is_true A) ls m h.0 l h.1
 
 -- a list of clauses is met where each is true
 pub met_at : (A : ℕ → Bool) (F : List (List ℕ)) → MeetsAll A F → (i : ℕ) → i < length F → clause_holds A (clause_at F i) ≡ true
@@ -131,3 +135,10 @@ module _ (n : ℕ) (A B : ℕ → Bool) (same : AgreeBelow n A B) where
   pub all_local : (F : List (List ℕ)) → ClausesAreBelow n F → all_hold A F ≡ all_hold B F
   all_local [] h = refl
   all_local (c ∷ cs) h = ap (λ z. z && all_hold A cs) (clause_local c (All-head (AreBelow n) c cs h)) ∙ ap (λ z. clause_holds B c && z) (all_local cs (All-tail (AreBelow n) c cs h))
+
+-- a list cut at n gives the variables below n the same truths
+pub truths_cut : (n : ℕ) (a : List Bool) → AgreeBelow n (truths (take n a)) (truths a)
+truths_cut zero xs v h = absurd (omega arith)
+truths_cut (suc n) [] v h = refl
+truths_cut (suc n) (x ∷ xs) zero h = refl
+truths_cut (suc n) (x ∷ xs) (suc v) h = truths_cut n xs v (omega arith)

@@ -1,6 +1,7 @@
 -- The queries over a template's blocks. Each contains the clauses of its blocks, that its beginning is a start or
 -- a loop head, and what it asks of its blocks; what a prover may assume instead of adding is kept apart.
 use Rattle.std.specs.Prelude.{ℕ, zero, suc, ◌+◌, ◌-◌, ◌*◌, Bool, true, false, ◌&&◌, ◌==◌, if◌then◌else◌, List, [], ◌∷◌, ◌++◌, map}
+use mathlib.Core.Bool.{beq}
 use Rattle.std.specs.List.{list_any}
 use Rattle.std.specs.Ordering.{int_eq}
 use Rattle.kv_clause.specs.Literals.{complement_of}
@@ -26,7 +27,7 @@ arrivals T zero = []
 arrivals T (suc k) = arrivals T k ++ literal_in T k T.next ∷ []
 
 abbrev pub is_same : Bound → Bound → Bool
-is_same a b = (a.head == b.head) && (a.cell == b.cell) && (if a.at_least then b.at_least else (if b.at_least then false else true)) && int_eq a.number b.number
+is_same a b = (a.head == b.head) && (a.cell == b.cell) && beq a.at_least b.at_least && int_eq a.number b.number
 
 abbrev pub has_bound : List Bound → Bound → Bool
 has_bound bs b = list_any (is_same b) bs

@@ -8,6 +8,7 @@ mod below;
 mod block;
 mod blocks;
 mod bound;
+pub mod laws;
 mod literal;
 mod plain;
 mod query;
@@ -23,3 +24,6 @@ pub use plain::PlainBlocks;
 pub use query::Query;
 pub use template::{Site, Sites, Template};
 pub use truth::{Assignment, holds};
+
+#[cfg(test)]
+mod tests;
