@@ -4,7 +4,7 @@ use Rattle.std.proofs.Common.{ℕ, zero, suc, ◌≡◌, ◌≢◌, ◌+◌, ◌
 use Rattle.std.specs.List.{Contains, list_any, IsDistinct}
 use Rattle.std.proofs.Math.Nat.{pow-suc}
 use Rattle.std.proofs.lemmas.Bool.{cases_eq, cases_Bool, eq-eqb, ne_eqb, false≢true}
-use Rattle.std.proofs.lemmas.List.{length-append, length-map, get_or_default, get_or_append_left, get_or_append_right}
+use Rattle.std.proofs.lemmas.List.{length-append, length-map, get_or_default, get_or-append_right, get_or-drop, get_or-map, get_or-take, length-drop, length-take}
 use Rattle.std.proofs.lemmas.Map.Keys.{IsDistinct-from_apart}
 use Rattle.std.proofs.lemmas.Map.Steps.{length-le_from_distinct_below}
 use Rattle.kv_clause.specs.Literals.{variable_of, complement_of, AreBelow}
@@ -99,3 +99,61 @@ Contains-code n c d e apart l lt has_it = elim (cases_eq (l % 2) 0) [
       | inr a ↦ elim (cases_Bool (has c (2 * v + 1))) [ inl b ↦ b | inr b ↦ let f = simp (a, b) at e in absurd (omega (arith, f)) ] ]
     two : (d : List ℕ) (v : ℕ) → (has d (2 * v) ≡ true → ⊥) → has d (2 * v + 1) ≡ true → digit d v ≡ 2
     two d v off on = elim (cases_Bool (has d (2 * v))) [ inl a ↦ absurd (off a) | inr a ↦ simp (a, on) ]
+
+-- a clause that isn't empty has another number than the empty one
+nonempty-code : (n : ℕ) (c : List ℕ) → IsProper n c → code n [] ≡ code n c → ⊥
+nonempty-code n [] p e = p.nonempty refl
+nonempty-code n (l ∷ ls) p e =
+    let first : Contains (l ∷ ls) l = (0, omega arith, refl) in
+    let w = Contains-code n [] (l ∷ ls) e p.apart l (p.below 0 l (omega arith)) first in
+    let none = w.1 in
+    omega arith
+
+-- of two clauses with one number, the second includes the first
+same-code : (n : ℕ) (c d : List ℕ) → IsProper n c → code n c ≡ code n d → Includes d c
+same-code n c d p e l w = Contains-code n d c (sym e) p.apart l (subst (λ (x : ℕ). variable_of x < n) w.2 (p.below w.0 l w.1)) w
+
+module _ (n : ℕ) (F : List (List ℕ)) (B : ℕ) (L : List (List ℕ)) (s : Spent n F B L) where
+  -- the empty clause, and the last B
+  abbrev lasts : List (List ℕ)
+  lasts = [] ∷ drop (length L - B) L
+
+  last_at : (i : ℕ) → get_or (drop (length L - B) L) i [] ≡ clause_at L (length L - B + i)
+  last_at i = get_or-drop (length L - B) L i []
+
+  many : length lasts ≡ suc B
+  many = let k = s.enough in omega (arith, length-drop (length L - B) L)
+
+  earlier : (i j : ℕ) → i < j → j < length L → clause_at (F ++ take j L) (length F + i) ≡ clause_at L i
+  earlier i j h k =
+      let back : length F + i - length F ≡ i = omega arith in
+      get_or-append_right F (take j L) (length F) (length F + i) [] refl (omega arith) ∙ (ap (λ (x : ℕ). get_or (take j L) x []) back ∙ get_or-take j L i [] h)
+
+  fresh_apart : (i j : ℕ) → i < j → j < length L → length L ≤ j + B → code n (clause_at L i) ≡ code n (clause_at L j) → ⊥
+  fresh_apart i j h k late e =
+      s.fresh j k late (length F + i) (omega (arith, length-append F (take j L), length-take j L))
+        (subst (λ (c : List ℕ). Includes (clause_at L j) c) (sym (earlier i j h k)) (same-code n (clause_at L i) (clause_at L j) (s.proper i (omega arith)) e))
+
+  apart : (i j : ℕ) → i < j → j < length lasts → code n (get_or lasts i []) ≢ code n (get_or lasts j [])
+  apart i zero h k e = omega arith
+  apart zero (suc j) h k e =
+      let some = many in let all = s.enough in
+      let within : length L - B + j < length L = omega arith in
+      nonempty-code n (clause_at L (length L - B + j)) (s.proper (length L - B + j) within) (e ∙ ap (code n) (last_at j))
+  apart (suc i) (suc j) h k e =
+      let some = many in let all = s.enough in
+      let within : length L - B + j < length L = omega arith in
+      fresh_apart (length L - B + i) (length L - B + j) (omega arith) within (omega arith) (sym (ap (code n) (last_at i)) ∙ (e ∙ ap (code n) (last_at j)))
+
+  code_at : (i : ℕ) → i < length lasts → get_or (map (code n) lasts) i 0 ≡ code n (get_or lasts i [])
+  code_at i h = get_or-map (code n) lasts i [] 0 h
+
+  -- so a budget of 3 ^ n or more can't be spent
+  pub spent_few : B < 3 ^ n
+  spent_few =
+      let long : length (map (code n) lasts) ≡ length lasts = length-map lasts (code n) in
+      let some = many in
+      let few : length (map (code n) lasts) ≤ 3 ^ n = distinct_below (map (code n) lasts) (3 ^ n)
+            (λ i j h k e. apart i j h (omega arith) (sym (code_at i (omega arith)) ∙ (e ∙ code_at j (omega arith))))
+            (λ i h. subst (λ (x : ℕ). x < 3 ^ n) (sym (code_at i (omega arith))) (code-lt n (get_or lasts i []))) in
+      omega arith

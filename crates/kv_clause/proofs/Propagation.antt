@@ -1,8 +1,8 @@
 -- Laws of unit propagation.
-use Rattle.std.proofs.Common.{ℕ, zero, suc, ◌≡◌, ◌≢◌, ◌+◌, ◌<◌, ◌≤◌, ◌⊎◌, ◌++◌, inl, inr, List, [], ◌∷◌, map, length, get_or, Bool, true, false, not, refl, sym, ap, subst, ◌∙◌, arith}
+use Rattle.std.proofs.Common.{ℕ, ◌≡◌, ◌≢◌, ◌+◌, ◌<◌, ◌≤◌, ◌⊎◌, ◌++◌, inl, inr, List, [], ◌∷◌, map, length, get_or, Bool, true, false, not, refl, sym, ap, subst, ◌∙◌, arith}
 use Rattle.std.specs.List.{Contains}
 use Rattle.std.proofs.lemmas.Bool.{cases_eq, cases_Bool}
-use Rattle.std.proofs.lemmas.List.{length-append, length-map, get_or_append_left, get_or_default}
+use Rattle.std.proofs.lemmas.List.{length-append, length-map, get_or_append_left, get_or_default, get_or-map}
 use Rattle.kv_clause.specs.Literals.{complement_of, is_true, clause_holds, MeetsAll}
 use Rattle.kv_clause.specs.Propagation.{clause_at, Derived, given, unit, Conflict, HasComplements, Refuted, Follows}
 use Rattle.kv_clause.proofs.Truths.{complement_twice, both_true, is_true-complement, true_literal, holds-from_literal, met_at}
@@ -29,16 +29,11 @@ pub Refuted-sound : (A : ℕ → Bool) (F : List (List ℕ)) (ls : List ℕ) →
 Refuted-sound A F ls all asm (inl c) = Conflict-sound A F ls all asm c
 Refuted-sound A F ls all asm (inr h) = both_true A h.0 (asm h.0 h.1) (asm (complement_of h.0) h.2)
 
-at_map : (f : ℕ → ℕ) (xs : List ℕ) (k d e : ℕ) → k < length xs → get_or (map f xs) k d ≡ f (get_or xs k e)
-at_map f [] k d e h = absurd (omega arith)
-at_map f (x ∷ xs) zero d e h = refl
-at_map f (x ∷ xs) (suc k) d e h = at_map f xs k d e (omega arith)
-
 from_map : (f : ℕ → ℕ) (xs : List ℕ) (y : ℕ) → Contains (map f xs) y → (x : ℕ) × Contains xs x × (f x ≡ y)
 from_map f xs y w =
     let lt : w.0 < length xs = omega (arith, length-map xs f) in
     let x : ℕ = get_or xs w.0 0 in
-    (x, (w.0, lt, get_or_default xs w.0 x 0 lt), sym (at_map f xs w.0 y 0 lt) ∙ w.2)
+    (x, (w.0, lt, get_or_default xs w.0 x 0 lt), sym (get_or-map f xs w.0 0 y lt) ∙ w.2)
 
 -- a clause that follows is true where the clauses are
 pub Follows-sound : (A : ℕ → Bool) (F : List (List ℕ)) (c : List ℕ) → MeetsAll A F → Follows F c → clause_holds A c ≡ true
