@@ -1,10 +1,10 @@
 -- Laws of unit propagation.
-use Rattle.std.proofs.Common.{ℕ, ◌≡◌, ◌≢◌, ◌+◌, ◌<◌, ◌≤◌, ◌⊎◌, ◌++◌, inl, inr, List, [], ◌∷◌, map, length, get_or, Bool, true, false, not, refl, sym, ap, subst, ◌∙◌, arith}
+use Rattle.std.proofs.Common.{ℕ, ◌≡◌, ◌≢◌, ◌<◌, ◌++◌, inl, inr, List, [], map, length, get_or, Bool, true, false, not, refl, sym, ap, subst, ◌∙◌, arith}
 use Rattle.std.specs.List.{Contains}
 use Rattle.std.proofs.lemmas.Bool.{cases_eq, cases_Bool}
 use Rattle.std.proofs.lemmas.List.{length-append, length-map, get_or_append_left, get_or_default, get_or-map}
 use Rattle.kv_clause.specs.Literals.{complement_of, is_true, clause_holds, MeetsAll}
-use Rattle.kv_clause.specs.Propagation.{clause_at, Derived, given, unit, Conflict, HasComplements, Refuted, Follows}
+use Rattle.kv_clause.specs.Propagation.{clause_at, Derived, given, unit, Conflict, Refuted, Follows}
 use Rattle.kv_clause.proofs.Truths.{complement_twice, both_true, is_true-complement, true_literal, holds-from_literal, met_at}
 
 abbrev AllTrue : (ℕ → Bool) → List ℕ → Type 0
@@ -16,8 +16,9 @@ Derived-sound A F ls all asm _ (given l h) = asm l h
 Derived-sound A F ls all asm _ (unit l i lt has others) =
     let w = true_literal A (clause_at F i) (met_at A F all i lt) in
     elim (cases_eq w.0 l) [
-      inl e ↦ subst (λ (x : ℕ). is_true A x ≡ true) e w.2
-    | inr ne ↦ absurd (both_true A w.0 w.2 (Derived-sound A F ls all asm (complement_of w.0) (others w.0 w.1 ne))) ]
+      | inl e ↦ subst (λ (x : ℕ). is_true A x ≡ true) e w.2
+      | inr ne ↦ absurd (both_true A w.0 w.2 (Derived-sound A F ls all asm (complement_of w.0) (others w.0 w.1 ne)))
+    ]
 
 pub Conflict-sound : (A : ℕ → Bool) (F : List (List ℕ)) (ls : List ℕ) → MeetsAll A F → AllTrue A ls → Conflict F ls → ⊥
 Conflict-sound A F ls all asm c =
@@ -38,17 +39,22 @@ from_map f xs y w =
 -- a clause that follows is true where the clauses are
 pub Follows-sound : (A : ℕ → Bool) (F : List (List ℕ)) (c : List ℕ) → MeetsAll A F → Follows F c → clause_holds A c ≡ true
 Follows-sound A F c all f = elim (cases_Bool (clause_holds A c)) [
-    inl on ↦ on
-  | inr off ↦ absurd (refused off f) ]
+  | inl on ↦ on
+  | inr off ↦ absurd (refused off f)
+]
   where
     not_both : (b : Bool) → b ≡ true → b ≡ false → ⊥
     not_both b p q = cc
+
     all_off : clause_holds A c ≡ false → (l : ℕ) → Contains c l → is_true A l ≡ false
     all_off off l h = elim (cases_Bool (is_true A l)) [
-        inl on ↦ absurd (not_both (clause_holds A c) (holds-from_literal A c l h on) off)
-      | inr e ↦ e ]
+      | inl on ↦ absurd (not_both (clause_holds A c) (holds-from_literal A c l h on) off)
+      | inr e ↦ e
+    ]
+
     complements : clause_holds A c ≡ false → (l : ℕ) → (m : ℕ) × Contains c m × (complement_of m ≡ l) → is_true A l ≡ true
     complements off l w = subst (λ (x : ℕ). is_true A x ≡ true) w.2 (is_true-complement A w.0 ∙ ap not (all_off off w.0 w.1))
+
     refused : clause_holds A c ≡ false → Follows F c → ⊥
     refused off (inl d) = Conflict-sound A F (map complement_of c) all (λ l h. complements off l (from_map complement_of c l h)) d
     refused off (inr h) = not_both (is_true A (complement_of h.0)) (is_true-complement A h.0 ∙ ap not (all_off off h.0 h.1)) (all_off off (complement_of h.0) h.2)
@@ -62,7 +68,7 @@ Derived-more F G ks ls sup sub _ (given l h) = given l (sub l h)
 Derived-more F G ks ls sup sub _ (unit l i lt has others) =
     let w = sup i lt in
     unit l w.0 w.1 (subst (λ (c : List ℕ). Contains c l) (sym w.2) has)
-      (λ m h ne. Derived-more F G ks ls sup sub (complement_of m) (others m (subst (λ (c : List ℕ). Contains c m) w.2 h) ne))
+    (λ m h ne. Derived-more F G ks ls sup sub (complement_of m) (others m (subst (λ (c : List ℕ). Contains c m) w.2 h) ne))
 
 pub Conflict-more : (F G : List (List ℕ)) (ks ls : List ℕ) → HasAll G F → ((l : ℕ) → Contains ks l → Contains ls l) → Conflict F ks → Conflict G ls
 Conflict-more F G ks ls sup sub c =
@@ -86,9 +92,11 @@ Refuted-both F ls l p q = both l p (complement_of l) refl q
   where
     by_unit : (l : ℕ) (i : ℕ) → i < length F → ((m : ℕ) → Contains (clause_at F i) m → m ≢ l → Derived F ls (complement_of m)) → Derived F ls (complement_of l) → Refuted F ls
     by_unit l i lt others q = inl (record { at = i; within = lt; all_false = λ m h. elim (cases_eq m l) [ inl e ↦ subst (λ (x : ℕ). Derived F ls (complement_of x)) (sym e) q | inr ne ↦ others m h ne ] })
+
     second : (l : ℕ) → Contains ls l → (n : ℕ) → n ≡ complement_of l → Derived F ls n → Refuted F ls
     second l h _ e (given n g) = inr (l, h, subst (λ (x : ℕ). Contains ls x) e g)
     second l h _ e (unit n i lt has others) = by_unit n i lt others (subst (λ (x : ℕ). Derived F ls x) (sym (complement_twice l) ∙ ap complement_of (sym e)) (given l h))
+
     both : (l : ℕ) → Derived F ls l → (n : ℕ) → n ≡ complement_of l → Derived F ls n → Refuted F ls
     both _ (given l h) n e q = second l h n e q
     both _ (unit l i lt has others) n e q = by_unit l i lt others (subst (λ (x : ℕ). Derived F ls x) e q)

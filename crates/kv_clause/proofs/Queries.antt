@@ -1,9 +1,9 @@
 -- Laws of blocks and queries.
-use Rattle.std.proofs.Common.{ℕ, zero, suc, ◌≡◌, ◌+◌, ◌-◌, ◌*◌, ◌/◌, ◌<◌, ◌≤◌, ◌++◌, List, [], ◌∷◌, map, length, Bool, true, false, ◌&&◌, refl, sym, ap, subst, ◌∙◌, arith, inl, inr, take, add-one}
+use Rattle.std.proofs.Common.{ℕ, zero, suc, ◌≡◌, ◌+◌, ◌-◌, ◌*◌, ◌/◌, ◌<◌, ◌≤◌, ◌++◌, List, [], ◌∷◌, map, Bool, true, false, ◌&&◌, refl, sym, ap, subst, ◌∙◌, arith, inl, inr, take, add-one}
 use Rattle.std.proofs.lemmas.Bool.{cases_eq}
 use Rattle.std.proofs.lemmas.List.Elements.{All-nil, All-append, All-map, All-weaker}
-use Rattle.kv_clause.specs.Literals.{variable_of, moved, is_true, all_hold, MeetsAll, AreTrue, AreBelow, ClausesAreBelow, later, truths}
-use Rattle.kv_clause.specs.Blocks.{stride, literal_in, variable_in, clauses_in, block_of}
+use Rattle.kv_clause.specs.Literals.{variable_of, is_true, all_hold, MeetsAll, AreTrue, AreBelow, ClausesAreBelow, later, truths}
+use Rattle.kv_clause.specs.Blocks.{stride, literal_in, variable_in, block_of}
 use Rattle.kv_clause.specs.Queries.{blocks_of, vars_of, arrivals, units, fixed, asked, query}
 use Rattle.kv_clause.specs.declared.template.Template.{Template}
 use Rattle.kv_clause.specs.declared.query.Query.{Query}
@@ -24,8 +24,9 @@ module _ (T : Template) where
   pub blocks_at : (A : ℕ → Bool) (k : ℕ) → MeetsAll A (blocks_of T k) → (i : ℕ) → i < k → MeetsAll A (block_of T i)
   blocks_at A zero m i h = absurd (omega arith)
   blocks_at A (suc k) m i h = elim (cases_eq i k) [
-      inl e ↦ subst (λ (j : ℕ). MeetsAll A (block_of T j)) (sym e) (met_right A (blocks_of T k) (block_of T k) m)
-    | inr ne ↦ blocks_at A k (met_left A (blocks_of T k) (block_of T k) m) i (omega arith) ]
+    | inl e ↦ subst (λ (j : ℕ). MeetsAll A (block_of T j)) (sym e) (met_right A (blocks_of T k) (block_of T k) m)
+    | inr ne ↦ blocks_at A k (met_left A (blocks_of T k) (block_of T k) m) i (omega arith)
+  ]
 
   pub blocks-from_each : (A : ℕ → Bool) (k : ℕ) → ((i : ℕ) → i < k → MeetsAll A (block_of T i)) → MeetsAll A (blocks_of T k)
   blocks-from_each A zero each = refl
@@ -48,8 +49,9 @@ module _ (T : Template) where
   pub arrivals_at : (A : ℕ → Bool) (k : ℕ) → AreTrue A (arrivals T k) → (i : ℕ) → i < k → is_true A (literal_in T i T.next) ≡ true
   arrivals_at A zero m i h = absurd (omega arith)
   arrivals_at A (suc k) m i h = elim (cases_eq i k) [
-      inl e ↦ subst (λ (j : ℕ). is_true A (literal_in T j T.next) ≡ true) (sym e) (one_true A (literal_in T k T.next) (true_right A (arrivals T k) (literal_in T k T.next ∷ []) m))
-    | inr ne ↦ arrivals_at A k (true_left A (arrivals T k) (literal_in T k T.next ∷ []) m) i (omega arith) ]
+    | inl e ↦ subst (λ (j : ℕ). is_true A (literal_in T j T.next) ≡ true) (sym e) (one_true A (literal_in T k T.next) (true_right A (arrivals T k) (literal_in T k T.next ∷ []) m))
+    | inr ne ↦ arrivals_at A k (true_left A (arrivals T k) (literal_in T k T.next ∷ []) m) i (omega arith)
+  ]
 
   pub arrivals-from_each : (A : ℕ → Bool) (k : ℕ) → ((i : ℕ) → i < k → is_true A (literal_in T i T.next) ≡ true) → AreTrue A (arrivals T k)
   arrivals-from_each A zero each = refl

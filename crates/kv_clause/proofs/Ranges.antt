@@ -1,7 +1,7 @@
 -- The literals of a query are over the variables of its blocks.
-use Rattle.std.proofs.Common.{ℕ, zero, suc, ◌≡◌, ◌+◌, ◌-◌, ◌*◌, ◌/◌, ◌<◌, ◌≤◌, ◌++◌, List, [], ◌∷◌, map, Bool, true, false, if◌then◌else◌, refl, sym, ap, subst, ◌∙◌, arith, add-one}
-use Rattle.std.specs.List.{All}
-use Rattle.std.proofs.lemmas.List.Elements.{All-nil, All-cons, All-head, All-tail, All-append, All-push, All-map, All-weaker}
+use Rattle.std.proofs.Common.{ℕ, zero, suc, ◌≡◌, ◌+◌, ◌-◌, ◌*◌, ◌<◌, ◌≤◌, ◌++◌, List, [], ◌∷◌, map, subst, arith, add-one}
+use Rattle.std.specs.List.{All, filter}
+use Rattle.std.proofs.lemmas.List.Elements.{All-nil, All-cons, All-append, All-push, All-map, All-filter, All-weaker}
 use Rattle.kv_clause.specs.Literals.{variable_of, complement_of, AreBelow, ClausesAreBelow}
 use Rattle.kv_clause.specs.Blocks.{stride, literal_in}
 use Rattle.kv_clause.specs.Queries.{blocks_of, blocks_in, vars_of, arrivals, units, has_bound, lits_of, bounds_at, bounds_before, breaks_last, leaves_set, fixed, asked, query}
@@ -33,12 +33,8 @@ lits_both : (n : ℕ) (ks ls : List ℕ) → AreBelow n ks → AreBelow n ls →
 lits_both n ks ls h k = All-append (λ l. variable_of l < n) ks ls h k
 
 lits_below : (n : ℕ) (cs : List BoundLit) (bs : List Bound) → All (λ c. variable_of c.lit < n) cs → AreBelow n (lits_of cs bs)
-lits_below n [] bs h = All-nil (λ l. variable_of l < n)
-lits_below n (c ∷ cs) bs h = taken (has_bound bs c.bound) (lits_below n cs bs (All-tail (λ d. variable_of d.lit < n) c cs h))
-  where
-    taken : (b : Bool) → AreBelow n (lits_of cs bs) → AreBelow n (if b then c.lit ∷ lits_of cs bs else lits_of cs bs)
-    taken true k = All-cons (λ l. variable_of l < n) c.lit (lits_of cs bs) (All-head (λ d. variable_of d.lit < n) c cs h) k
-    taken false k = k
+lits_below n cs bs h = All-map (λ l. variable_of l < n) (λ (c : BoundLit). c.lit) (filter (λ c. has_bound bs c.bound) cs)
+    (All-filter (λ c. has_bound bs c.bound) (λ (c : BoundLit). variable_of c.lit < n) cs h)
 
 times_more : (k n s : ℕ) → k ≤ n → k * s ≤ n * s
 times_more k n s h = grind arith
@@ -82,7 +78,7 @@ module _ (T : Template) where
   fixed_below (First round bs) = both_below (vars_of T 2) (T.start ++ blocks_of T 2) (leaves_set T bs) (from_below 2 T.start T.start_below) (leaves_below bs)
   fixed_below (Induct round bs) = both_below (vars_of T 2) (T.head ++ blocks_of T 2 ++ units (bounds_at T bs 0)) (leaves_set T bs)
       (both_below (vars_of T 2) (T.head ++ blocks_of T 2) (units (bounds_at T bs 0)) (from_below 2 T.head T.head_below)
-        (units_below (vars_of T 2) (bounds_at T bs 0) (below_more (vars_of T 1) (vars_of T 2) (bounds_at T bs 0) (vars_more 1 2 (omega arith)) (bounds_at_below bs 0))))
+      (units_below (vars_of T 2) (bounds_at T bs 0) (below_more (vars_of T 1) (vars_of T 2) (bounds_at T bs 0) (vars_more 1 2 (omega arith)) (bounds_at_below bs 0))))
       (leaves_below bs)
   fixed_below (Closing k under) = from_below k T.head T.head_below
 

@@ -1,7 +1,6 @@
 -- The truth of literals, clauses and lists of clauses.
-use Rattle.std.proofs.Common.{ℕ, zero, suc, ◌≡◌, ◌≢◌, ◌+◌, ◌-◌, ◌*◌, ◌/◌, ◌%◌, ◌<◌, ◌≤◌, ◌++◌, List, [], ◌∷◌, map, length, get_or, Bool, true, false, not, ◌&&◌, ◌||◌, cond, eqb, ◌==◌, if◌then◌else◌, refl, sym, ap, subst, ◌∙◌, arith, inl, inr, take}
-use Rattle.std.specs.List.{Contains, All, AllPass, list_any, list_all}
-use Rattle.std.specs.Prelude.{slice_index_or}
+use Rattle.std.proofs.Common.{ℕ, zero, suc, ◌≡◌, ◌+◌, ◌*◌, ◌/◌, ◌%◌, ◌<◌, ◌++◌, List, [], ◌∷◌, map, length, Bool, true, false, not, ◌&&◌, ◌||◌, ◌==◌, if◌then◌else◌, refl, sym, ap, ◌∙◌, arith, inl, inr, take}
+use Rattle.std.specs.List.{Contains, list_all}
 use Rattle.std.proofs.lemmas.Bool.{cases_eq, cases_Bool, eq-eqb, ne_eqb}
 use Rattle.std.proofs.lemmas.List.{get_or_default}
 use Rattle.std.proofs.lemmas.List.Elements.{All-head, All-tail}
@@ -27,10 +26,11 @@ not-not false = refl
 -- a literal and its complement have opposite truths
 pub is_true-complement : (A : ℕ → Bool) (l : ℕ) → is_true A (complement_of l) ≡ not (is_true A l)
 is_true-complement A l = elim (cases_eq (l % 2) 0) [
-    inl e ↦ let o : complement_of l % 2 ≡ 0 → ⊥ = λ (h : complement_of l % 2 ≡ 0). omega arith in
+  | inl e ↦ let o : complement_of l % 2 ≡ 0 → ⊥ = λ (h : complement_of l % 2 ≡ 0). omega arith in
       simp (ne_eqb (complement_of l % 2) 0 o, eq-eqb (l % 2) 0 e, complement_variable l)
   | inr e ↦ let o : complement_of l % 2 ≡ 0 = omega arith in
-      simp (eq-eqb (complement_of l % 2) 0 o, ne_eqb (l % 2) 0 e, complement_variable l) (not-not (A (l / 2))) ]
+      simp (eq-eqb (complement_of l % 2) 0 o, ne_eqb (l % 2) 0 e, complement_variable l) (not-not (A (l / 2)))
+]
 
 not-both : (b : Bool) → b ≡ true → not b ≡ true → ⊥
 not-both b p q = elim b as (λ x. x ≡ true → not x ≡ true → ⊥) [ true ↦ λ a c. cc | false ↦ λ a c. cc ] p q
@@ -42,10 +42,11 @@ both_true A l p q = not-both (is_true A l) p (sym (is_true-complement A l) ∙ q
 pub true_literal : (A : ℕ → Bool) (c : List ℕ) → clause_holds A c ≡ true → (l : ℕ) × Contains c l × (is_true A l ≡ true)
 true_literal A [] e = absurd (cc)
 true_literal A (x ∷ xs) e = elim (cases_Bool (is_true A x)) [
-    inl on ↦ (x, (0, omega arith, refl), on)
+  | inl on ↦ (x, (0, omega arith, refl), on)
   | inr off ↦
       let w = true_literal A xs (simp off at e) in
-      (w.0, (suc w.1.0, omega arith, w.1.2), w.2) ]
+      (w.0, (suc w.1.0, omega arith, w.1.2), w.2)
+]
 
 pub holds-from_literal : (A : ℕ → Bool) (c : List ℕ) (l : ℕ) → Contains c l → is_true A l ≡ true → clause_holds A c ≡ true
 holds-from_literal A c l h e = list_any_at (is_true A) c h.0 l h.1 (ap (is_true A) h.2 ∙ e)

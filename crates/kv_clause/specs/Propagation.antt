@@ -1,5 +1,5 @@
 -- Unit propagation, and what it shows: that a clause follows from others, and that a budget of learnt clauses is spent.
-use Rattle.std.specs.Prelude.{ℕ, ◌≡◌, ◌≢◌, ◌+◌, ◌<◌, ◌≤◌, ◌⊎◌, List, [], ◌++◌, map, length, take, slice_index_or}
+use Rattle.std.specs.Prelude.{ℕ, ◌≢◌, ◌+◌, ◌<◌, ◌≤◌, ◌⊎◌, List, [], ◌++◌, map, length, take, slice_index_or}
 use Rattle.std.specs.List.{Contains}
 use Rattle.kv_clause.specs.Literals.{complement_of, AreBelow}
 use Rattle.kv_clause.specs.Queries.{fixed, blocks_in, vars_of}

@@ -1,8 +1,8 @@
 -- The queries over a template's blocks. Each contains the clauses of its blocks, that its beginning is a start or
 -- a loop head, and what it asks of its blocks; what a prover may assume instead of adding is kept apart.
-use Rattle.std.specs.Prelude.{ℕ, zero, suc, ◌+◌, ◌-◌, ◌*◌, Bool, true, false, ◌&&◌, ◌==◌, if◌then◌else◌, List, [], ◌∷◌, ◌++◌, map}
+use Rattle.std.specs.Prelude.{ℕ, zero, suc, ◌+◌, ◌-◌, ◌*◌, Bool, ◌&&◌, ◌==◌, List, [], ◌∷◌, ◌++◌, map}
 use mathlib.Core.Bool.{beq}
-use Rattle.std.specs.List.{list_any}
+use Rattle.std.specs.List.{list_any, filter}
 use Rattle.std.specs.Ordering.{int_eq}
 use Rattle.kv_clause.specs.Literals.{complement_of}
 use Rattle.kv_clause.specs.Blocks.{stride, literal_in, block_of}
@@ -30,12 +30,11 @@ abbrev pub is_same : Bound → Bound → Bool
 is_same a b = (a.head == b.head) && (a.cell == b.cell) && beq a.at_least b.at_least && int_eq a.number b.number
 
 abbrev pub has_bound : List Bound → Bound → Bool
-has_bound bs b = list_any (is_same b) bs
+has_bound bs b = list_any (λ a. is_same a b) bs
 
 -- the literals of the candidates that stand among the bounds, in the candidates' order
 abbrev pub lits_of : List BoundLit → List Bound → List ℕ
-lits_of [] bs = []
-lits_of (c ∷ cs) bs = if has_bound bs c.bound then c.lit ∷ lits_of cs bs else lits_of cs bs
+lits_of cs bs = map (λ c. c.lit) (filter (λ c. has_bound bs c.bound) cs)
 
 -- the bounds hold at the beginning of block i
 abbrev pub bounds_at : Template → List Bound → ℕ → List ℕ

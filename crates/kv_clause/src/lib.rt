@@ -4,6 +4,7 @@
 //! `NoMemory` where there is none.
 #![tactic(auto)]
 
+mod asked;
 mod below;
 mod block;
 mod blocks;
@@ -15,6 +16,7 @@ mod query;
 mod template;
 mod truth;
 
+pub use asked::asked_literals;
 pub use below::{are_below, bounds_are_below, clauses_are_below, sites_are_below};
 pub use block::{Block, shift};
 pub use blocks::Blocks;

@@ -96,14 +96,23 @@ fn queries_print_their_names(rt: HostRuntime) -> Result<(), Fail> {
     assert_eq!(rt; base.to_string(alloc)?.as_str(), "base case 1");
     let forward = Query::Forward { k: 20 };
     assert_eq!(rt; forward.to_string(alloc)?.as_str(), "forward condition 20");
-    let first = Query::First { round: 1, set: set.copy(alloc)? };
+    let first = Query::First {
+        round: 1,
+        set: set.copy(alloc)?,
+    };
     assert_eq!(rt; first.to_string(alloc)?.as_str(), "first arrivals 1");
     let induct = Query::Induct { round: 3, set };
     assert_eq!(rt; induct.to_string(alloc)?.as_str(), "inductive subset 3");
-    let step = Query::Step { k: 2, under: under.copy(alloc)? };
+    let step = Query::Step {
+        k: 2,
+        under: under.copy(alloc)?,
+    };
     assert_eq!(rt; step.to_string(alloc)?.as_str(), "inductive step 2");
     let closing = Query::Closing { k: 2, under };
-    assert_eq!(rt; closing.copy(alloc)?.to_string(alloc)?.as_str(), "closing step 2");
+    assert_eq!(rt;
+        closing.copy(alloc)?.to_string(alloc)?.as_str(),
+        "closing step 2"
+    );
     Ok(())
 }
 

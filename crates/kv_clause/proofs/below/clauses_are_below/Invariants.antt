@@ -1,5 +1,4 @@
-use Rattle.std.proofs.Common.{◌<◌, take}
-use Rattle.std.specs.List.{All}
+use Rattle.std.proofs.Common.{take}
 use Rattle.kv_clause.specs.Literals.{ClausesAreBelow}
 use Rattle.kv_clause.proofs.below.clauses_are_below.Given as goal
 
