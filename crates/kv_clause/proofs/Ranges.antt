@@ -4,7 +4,7 @@ use Rattle.std.specs.List.{All, filter}
 use Rattle.std.proofs.lemmas.List.Elements.{All-nil, All-cons, All-append, All-push, All-map, All-filter, All-weaker}
 use Rattle.kv_clause.specs.Literals.{variable_of, complement_of, AreBelow, ClausesAreBelow}
 use Rattle.kv_clause.specs.Blocks.{stride, literal_in}
-use Rattle.kv_clause.specs.Queries.{blocks_of, blocks_in, vars_of, arrivals, units, has_bound, lits_of, bounds_at, bounds_before, breaks_last, leaves_set, fixed, asked, query}
+use Rattle.kv_clause.specs.Queries.{blocks_of, blocks_in, vars_of, arrivals, units, has_bound, lits_of, bounds_at, bounds_before, breaks_last, leaves_set, beginning_of, further_of, fixed, asked, query}
 use Rattle.kv_clause.specs.declared.template.Template.{Template}
 use Rattle.kv_clause.specs.declared.bound.Bound.{Bound}
 use Rattle.kv_clause.specs.declared.bound.BoundLit.{BoundLit}
@@ -68,19 +68,30 @@ module _ (T : Template) where
   state_below : (k : ℕ) (F : List (List ℕ)) → ClausesAreBelow T.state F → ClausesAreBelow (vars_of T k) F
   state_below k F h = more_below T T.state (vars_of T k) F (omega arith) h
 
-  from_below : (k : ℕ) (F : List (List ℕ)) → ClausesAreBelow T.state F → ClausesAreBelow (vars_of T k) (F ++ blocks_of T k)
-  from_below k F h = both_below (vars_of T k) F (blocks_of T k) (state_below k F h) (blocks_below T k)
+  beginning_below : (q : Query) → ClausesAreBelow T.state (beginning_of T q)
+  beginning_below (Base k) = T.start_below
+  beginning_below (Forward k) = T.start_below
+  beginning_below (Step k under) = T.head_below
+  beginning_below (First round bs) = T.start_below
+  beginning_below (Induct round bs) = T.head_below
+  beginning_below (Closing k under) = T.head_below
+
+  further_below : (q : Query) → ClausesAreBelow (vars_of T (blocks_in q)) (further_of T q)
+  further_below (Base k) = All-nil (AreBelow (vars_of T k))
+  further_below (Forward k) = All-nil (AreBelow (vars_of T k))
+  further_below (Step k under) = All-nil (AreBelow (vars_of T k))
+  further_below (First round bs) = leaves_below bs
+  further_below (Induct round bs) = both_below (vars_of T 2) (units (bounds_at T bs 0)) (leaves_set T bs)
+      (units_below (vars_of T 2) (bounds_at T bs 0) (below_more (vars_of T 1) (vars_of T 2) (bounds_at T bs 0) (vars_more 1 2 (omega arith)) (bounds_at_below bs 0)))
+      (leaves_below bs)
+  further_below (Closing k under) = All-nil (AreBelow (vars_of T k))
 
   pub fixed_below : (q : Query) → ClausesAreBelow (vars_of T (blocks_in q)) (fixed T q)
-  fixed_below (Base k) = from_below k T.start T.start_below
-  fixed_below (Forward k) = from_below k T.start T.start_below
-  fixed_below (Step k under) = from_below k T.head T.head_below
-  fixed_below (First round bs) = both_below (vars_of T 2) (T.start ++ blocks_of T 2) (leaves_set T bs) (from_below 2 T.start T.start_below) (leaves_below bs)
-  fixed_below (Induct round bs) = both_below (vars_of T 2) (T.head ++ blocks_of T 2 ++ units (bounds_at T bs 0)) (leaves_set T bs)
-      (both_below (vars_of T 2) (T.head ++ blocks_of T 2) (units (bounds_at T bs 0)) (from_below 2 T.head T.head_below)
-      (units_below (vars_of T 2) (bounds_at T bs 0) (below_more (vars_of T 1) (vars_of T 2) (bounds_at T bs 0) (vars_more 1 2 (omega arith)) (bounds_at_below bs 0))))
-      (leaves_below bs)
-  fixed_below (Closing k under) = from_below k T.head T.head_below
+  fixed_below q =
+      let n : ℕ = vars_of T (blocks_in q) in
+      both_below n (beginning_of T q ++ blocks_of T (blocks_in q)) (further_of T q)
+      (both_below n (beginning_of T q) (blocks_of T (blocks_in q)) (state_below (blocks_in q) (beginning_of T q) (beginning_below q)) (blocks_below T (blocks_in q)))
+      (further_below q)
 
   under_below : (bs : List Bound) (k : ℕ) → 1 ≤ k → AreBelow (vars_of T k) (bounds_before T bs k ++ breaks_last T k)
   under_below bs k h = lits_both (vars_of T k) (bounds_before T bs k) (breaks_last T k) (bounds_before_below bs k) (breaks_below k h)

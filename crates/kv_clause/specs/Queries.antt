@@ -57,14 +57,36 @@ breaks_last T k = arrivals T (k - 1) ++ literal_in T (k - 1) T.broken ∷ []
 abbrev pub leaves_set : Template → List Bound → List (List ℕ)
 leaves_set T bs = units (arrivals T 1) ++ map complement_of (bounds_at T bs 1) ∷ []
 
+-- the query begins at the program's start, or at a loop head
+abbrev pub beginning_of : Template → Query → List (List ℕ)
+beginning_of T (Base k) = T.start
+beginning_of T (Forward k) = T.start
+beginning_of T (Step k under) = T.head
+beginning_of T (First round bs) = T.start
+beginning_of T (Induct round bs) = T.head
+beginning_of T (Closing k under) = T.head
+
+-- what a query about a set says of it
+abbrev pub further_of : Template → Query → List (List ℕ)
+further_of T (Base k) = []
+further_of T (Forward k) = []
+further_of T (Step k under) = []
+further_of T (First round bs) = leaves_set T bs
+further_of T (Induct round bs) = units (bounds_at T bs 0) ++ leaves_set T bs
+further_of T (Closing k under) = []
+
+-- how many blocks a query has
+abbrev pub blocks_in : Query → ℕ
+blocks_in (Base k) = k
+blocks_in (Forward k) = k
+blocks_in (Step k under) = k
+blocks_in (First round bs) = 2
+blocks_in (Induct round bs) = 2
+blocks_in (Closing k under) = k
+
 -- the clauses of a query that are no asked literals
 abbrev pub fixed : Template → Query → List (List ℕ)
-fixed T (Base k) = T.start ++ blocks_of T k
-fixed T (Forward k) = T.start ++ blocks_of T k
-fixed T (Step k under) = T.head ++ blocks_of T k
-fixed T (First round bs) = T.start ++ blocks_of T 2 ++ leaves_set T bs
-fixed T (Induct round bs) = T.head ++ blocks_of T 2 ++ units (bounds_at T bs 0) ++ leaves_set T bs
-fixed T (Closing k under) = T.head ++ blocks_of T k
+fixed T q = beginning_of T q ++ blocks_of T (blocks_in q) ++ further_of T q
 
 -- the literals of a query that a solver may assume
 abbrev pub asked : Template → Query → List ℕ
@@ -78,12 +100,3 @@ asked T (Closing k under) = bounds_before T under k ++ breaks_last T k
 -- all clauses of a query
 abbrev pub query : Template → Query → List (List ℕ)
 query T q = fixed T q ++ units (asked T q)
-
--- how many blocks a query has
-abbrev pub blocks_in : Query → ℕ
-blocks_in (Base k) = k
-blocks_in (Forward k) = k
-blocks_in (Step k under) = k
-blocks_in (First round bs) = 2
-blocks_in (Induct round bs) = 2
-blocks_in (Closing k under) = k

@@ -9,6 +9,7 @@ mod below;
 mod block;
 mod blocks;
 mod bound;
+mod fixed;
 pub mod laws;
 mod literal;
 mod plain;
@@ -21,6 +22,7 @@ pub use below::{are_below, bounds_are_below, clauses_are_below, sites_are_below}
 pub use block::{Block, shift};
 pub use blocks::Blocks;
 pub use bound::{Bound, BoundLit, BoundLits, Bounds};
+pub use fixed::{fixed_clauses, query_clauses};
 pub use literal::{Clause, Clauses, Cnf, Lit, Lits, Log};
 pub use plain::PlainBlocks;
 pub use query::Query;

@@ -1,3 +1,5 @@
+ghost use Rattle.std.specs.Prelude.{◌≡◌};
+
 use crate::bound::Bounds;
 use kv_base::{Copied, NoMemory};
 use std::alloc::Global;
@@ -19,6 +21,21 @@ pub enum Query {
     Induct { round: u32, set: Bounds },
     /// As `Step`, under the bounds of the largest inductive set.
     Closing { k: u32, under: Bounds },
+}
+
+impl Query {
+    ghost use Rattle.kv_clause.specs.Queries.{blocks_in};
+
+    /// How many blocks it is about.
+    pub fn blocks(&self) -> u32
+        ensures { result ≡ blocks_in self.now }
+    {
+        match self {
+            Query::Base { k } | Query::Forward { k } => *k,
+            Query::Step { k, .. } | Query::Closing { k, .. } => *k,
+            Query::First { .. } | Query::Induct { .. } => 2,
+        }
+    }
 }
 
 impl fmt::Display for Query {
