@@ -1,8 +1,7 @@
-ghost use Rattle.std.specs.Prelude.{◌≡◌, ◌↔◌, ◌≤◌, ◌^◌, ℤ, pos, ◌+ℤ◌, ◌*ℤ◌, IsTrue};
-ghost use Rattle.kv_num.specs.declared.types.IntType.{IntType};
+ghost use Rattle.std.specs.Prelude.{◌≡◌, ◌↔◌, ◌≤◌, ◌^◌, pos, IsTrue};
 ghost use Rattle.kv_num.specs.IntType.{size_of, below_of, InRange, wrap_of};
 
-use crate::IntType;
+use crate::{IntType, Num};
 
 /// How many numbers a type has.
 fn size(t: IntType) -> i128
@@ -58,9 +57,14 @@ pub fn fits(t: IntType, n: i128) -> bool
     -below <= n && n < size(t) - below
 }
 
-/// `wrap` gives a number that is congruent to the one given, and it is the only such number of the
-/// type's range. This function computes nothing: its contract is the law.
-pub fn wrap_is_unique()
-    ensures congruent { (t : IntType) (n : ℤ) → (k : ℤ) × (n ≡ wrap_of t n +ℤ (k *ℤ pos (size_of t))) }
-    ensures only { (t : IntType) (n m k : ℤ) → InRange t m → n ≡ m +ℤ (k *ℤ pos (size_of t)) → m ≡ wrap_of t n }
-{}
+/// An exact result as a number of the type.
+pub(crate) fn typed(t: IntType, exact: i128) -> Num
+    ensures value { result.value ≡ wrap_of t exact }
+    ensures range { InRange t result.value }
+    ensures fits { IsTrue result.fits ↔ InRange t exact }
+{
+    Num {
+        value: wrap(t, exact),
+        fits: fits(t, exact),
+    }
+}
