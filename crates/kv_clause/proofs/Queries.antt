@@ -40,10 +40,10 @@ module _ (T : Template) where
   and_true true = refl
   and_true false = refl
 
-  one_true : (A : ℕ → Bool) (l : ℕ) → AreTrue A (l ∷ []) → is_true A l ≡ true
+  pub one_true : (A : ℕ → Bool) (l : ℕ) → AreTrue A (l ∷ []) → is_true A l ≡ true
   one_true A l m = sym (and_true (is_true A l)) ∙ m
 
-  true_one : (A : ℕ → Bool) (l : ℕ) → is_true A l ≡ true → AreTrue A (l ∷ [])
+  pub true_one : (A : ℕ → Bool) (l : ℕ) → is_true A l ≡ true → AreTrue A (l ∷ [])
   true_one A l m = and_true (is_true A l) ∙ m
 
   pub arrivals_at : (A : ℕ → Bool) (k : ℕ) → AreTrue A (arrivals T k) → (i : ℕ) → i < k → is_true A (literal_in T i T.next) ≡ true
@@ -61,7 +61,7 @@ module _ (T : Template) where
   arrivals_fewer A k n h m = arrivals-from_each A k (λ i lt. arrivals_at A n m i (omega arith))
 
   -- block i of what is left behind the first block is block i + 1 of the whole
-  next_part : (A : ℕ → Bool) (i : ℕ) → later ((i + 1) * stride T) A ≡ later (i * stride T) (later (stride T) A)
+  pub next_part : (A : ℕ → Bool) (i : ℕ) → later ((i + 1) * stride T) A ≡ later (i * stride T) (later (stride T) A)
   next_part A i = λ j v. ap A (further v (stride T)) j
     where
       further : (v s : ℕ) → v + (i + 1) * s ≡ v + i * s + s

@@ -1,4 +1,5 @@
 pub mod Blocks
+pub mod Chains
 pub mod Literals
 pub mod Names
 pub mod Propagation

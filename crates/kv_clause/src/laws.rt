@@ -1,10 +1,13 @@
 //! Laws of the definitions that contracts here and above cite. Each call does nothing: its contract is the law.
-ghost use Rattle.std.specs.Prelude.{ℕ, ◌≡◌, ◌+◌, ◌-◌, ◌^◌, ◌<◌, ◌≤◌, ◌++◌, ◌↔◌, Bool, true, List, take};
+ghost use Rattle.std.specs.Prelude.{ℕ, suc, ◌≡◌, ◌+◌, ◌-◌, ◌^◌, ◌<◌, ◌≤◌, ◌++◌, ◌↔◌, Bool, true, List, take};
 ghost use Rattle.kv_clause.specs.Literals.{ClausesAreBelow, MeetsAll, AreTrue, clause_holds, later, truths};
 ghost use Rattle.kv_clause.specs.Blocks.{stride, variable_in};
-ghost use Rattle.kv_clause.specs.Queries.{blocks_in, blocks_of, vars_of, fixed, asked, query};
+ghost use Rattle.kv_clause.specs.Queries.{blocks_in, blocks_of, vars_of, fixed, asked, lits_of, query};
+ghost use Rattle.kv_clause.specs.declared.query.Query.TheVariants.{Base, Forward, Step, First, Induct, Closing};
+ghost use Rattle.kv_clause.specs.Chains.{MeetsArrivals, MeetsBreak, MeetsBreakUnder, MeetsLeaving};
 ghost use Rattle.kv_clause.specs.Propagation.{Follows, Refuted, Spent};
 
+use crate::bound::Bounds;
 use crate::query::Query;
 use crate::template::Template;
 use crate::truth::Assignment;
@@ -50,3 +53,30 @@ pub fn query_is_over_its_blocks(t: &Template, q: &Query)
 pub fn spent_budget_is_small()
     ensures { (n budget : ℕ) (F log : List (List ℕ)) → Spent n F budget log → budget < 3 ^ n }
 {}
+
+/// From the start, k blocks arrive and the next breaks: an assignment meets the query exactly where it meets them one
+/// after another.
+pub fn base_block_by_block(t: &Template, k: u32)
+    ensures { (A : ℕ → Bool) → MeetsAll A (query t.now (Base (suc k))) ↔ (MeetsAll A t.now.start × MeetsBreak t.now k A) }
+{
+}
+
+/// The same of k blocks that arrive.
+pub fn forward_block_by_block(t: &Template, k: u32)
+    ensures { (A : ℕ → Bool) → MeetsAll A (query t.now (Forward k)) ↔ (MeetsAll A t.now.start × MeetsArrivals t.now k A) }
+{
+}
+
+/// The same from a loop head, with bounds at the beginning of each block.
+pub fn step_block_by_block(t: &Template, k: u32, under: &Bounds)
+    ensures step { (A : ℕ → Bool) → MeetsAll A (query t.now (Step (suc k) under.now)) ↔ (MeetsAll A t.now.head × MeetsBreakUnder t.now under.now k A) }
+    ensures closing { (A : ℕ → Bool) → MeetsAll A (query t.now (Closing (suc k) under.now)) ↔ (MeetsAll A t.now.head × MeetsBreakUnder t.now under.now k A) }
+{
+}
+
+/// The same of one block that arrives where some bound of a set is false.
+pub fn set_block_by_block(t: &Template, round: u32, set: &Bounds)
+    ensures first { (A : ℕ → Bool) → MeetsAll A (query t.now (First round set.now)) ↔ (MeetsAll A t.now.start × MeetsLeaving t.now set.now A) }
+    ensures induct { (A : ℕ → Bool) → MeetsAll A (query t.now (Induct round set.now)) ↔ (MeetsAll A t.now.head × AreTrue A (lits_of t.now.bounds set.now) × MeetsLeaving t.now set.now A) }
+{
+}
