@@ -1,14 +1,14 @@
 -- A query's list of clauses says the same as its blocks one after another.
-use Rattle.std.proofs.Common.{ℕ, zero, suc, ◌≡◌, ◌+◌, ◌-◌, ◌*◌, ◌<◌, ◌≤◌, ◌++◌, List, [], ◌∷◌, map, Bool, true, ◌||◌, refl, sym, ap, subst, ◌∙◌, arith, add-one, inl, inr}
+use Rattle.std.proofs.Common.{ℕ, zero, suc, ◌≡◌, ◌+◌, ◌-◌, ◌*◌, ◌<◌, ◌++◌, List, [], ◌∷◌, map, Bool, true, ◌||◌, refl, sym, ap, subst, ◌∙◌, arith, add-one, inl, inr}
 use Rattle.std.specs.List.{list_all}
 use Rattle.std.proofs.lemmas.Bool.{cases_eq}
 use Rattle.kv_clause.specs.Literals.{is_true, clause_holds, all_hold, complement_of, moved, MeetsAll, AreTrue, later}
 use Rattle.kv_clause.specs.Blocks.{stride, literal_in, block_of}
-use Rattle.kv_clause.specs.Queries.{blocks_of, arrivals, lits_of, bounds_at, bounds_before, breaks_last, leaves_set, units, fixed, asked, query}
+use Rattle.kv_clause.specs.Queries.{blocks_of, arrivals, lits_of, bounds_at, bounds_before, breaks_last, leaves_set, units, query}
 use Rattle.kv_clause.specs.Chains.{MeetsArrivals, MeetsBreak, MeetsBreakUnder, MeetsLeaving}
 use Rattle.kv_clause.specs.declared.template.Template.{Template}
 use Rattle.kv_clause.specs.declared.bound.Bound.{Bound}
-use Rattle.kv_clause.specs.declared.query.Query.TheVariants.{Base, Forward, Step, First, Induct, Closing}
+use Rattle.kv_clause.specs.declared.query.Query.TheVariants.{Base, Forward, Step, First, Induct}
 use Rattle.kv_clause.proofs.Truths.{met_at, met_left, met_right, met_both, units_hold, true_left, true_right, true_both, literal_moved, literals_moved}
 use Rattle.kv_clause.proofs.Queries.{next_part, one_true, true_one, query_parts, query-from_parts, block_met, blocks_at, blocks-from_each, arrivals_at, arrivals-from_each, block_behind, literal_behind, blocks_behind, arrivals_behind}
 
@@ -69,8 +69,11 @@ module _ (T : Template) where
   -- k blocks arrive and the next breaks
   pub break_so : (k : ℕ) (A : ℕ → Bool) → MeetsAll A (blocks_of T (suc k)) → AreTrue A (arrivals T k) → is_true A (literal_in T k T.broken) ≡ true → MeetsBreak T k A
   break_so zero A m n b = (blocks_first A zero m, sym (first_literal A T.broken) ∙ b)
-  break_so (suc k) A m n b = (blocks_first A (suc k) m, arrivals_first A k n,
-      break_so k (later (stride T) A) (blocks_rest A (suc k) m) (arrivals_rest A k n) (literal_behind T A k T.broken ∙ subst (λ (j : ℕ). is_true A (literal_in T j T.broken) ≡ true) (sym (add-one k)) b))
+  break_so (suc k) A m n b = (
+    blocks_first A (suc k) m,
+    arrivals_first A k n,
+    break_so k (later (stride T) A) (blocks_rest A (suc k) m) (arrivals_rest A k n) (literal_behind T A k T.broken ∙ subst (λ (j : ℕ). is_true A (literal_in T j T.broken) ≡ true) (sym (add-one k)) b),
+  )
 
   pub break-from_so : (k : ℕ) (A : ℕ → Bool) → MeetsBreak T k A → MeetsAll A (blocks_of T (suc k)) × AreTrue A (arrivals T k) × (is_true A (literal_in T k T.broken) ≡ true)
   break-from_so zero A m = (blocks_joined A zero m.0 refl, refl, first_literal A T.broken ∙ m.1)
@@ -91,8 +94,9 @@ module _ (T : Template) where
   each_bounds : (A : ℕ → Bool) (bs : List Bound) (k : ℕ) → AreTrue A (bounds_before T bs k) → (i : ℕ) → i < k → AreTrue A (bounds_at T bs i)
   each_bounds A bs zero m i h = absurd (omega arith)
   each_bounds A bs (suc k) m i h = elim (cases_eq i k) [
-      inl e ↦ subst (λ (j : ℕ). AreTrue A (bounds_at T bs j)) (sym e) (true_right A (bounds_before T bs k) (bounds_at T bs k) m)
-    | inr ne ↦ each_bounds A bs k (true_left A (bounds_before T bs k) (bounds_at T bs k) m) i (omega arith) ]
+    | inl e ↦ subst (λ (j : ℕ). AreTrue A (bounds_at T bs j)) (sym e) (true_right A (bounds_before T bs k) (bounds_at T bs k) m)
+    | inr ne ↦ each_bounds A bs k (true_left A (bounds_before T bs k) (bounds_at T bs k) m) i (omega arith)
+  ]
 
   bounds-from_each : (A : ℕ → Bool) (bs : List Bound) (k : ℕ) → ((i : ℕ) → i < k → AreTrue A (bounds_at T bs i)) → AreTrue A (bounds_before T bs k)
   bounds-from_each A bs zero each = refl
@@ -111,8 +115,12 @@ module _ (T : Template) where
   -- k blocks arrive and the next breaks, under the bounds
   pub under_so : (bs : List Bound) (k : ℕ) (A : ℕ → Bool) → MeetsAll A (blocks_of T (suc k)) → AreTrue A (bounds_before T bs (suc k)) → AreTrue A (arrivals T k) → is_true A (literal_in T k T.broken) ≡ true → MeetsBreakUnder T bs k A
   under_so bs zero A m u n b = (blocks_first A zero m, sym (bounds_first A bs) ∙ each_bounds A bs 1 u 0 (omega arith), sym (first_literal A T.broken) ∙ b)
-  under_so bs (suc k) A m u n b = (blocks_first A (suc k) m, sym (bounds_first A bs) ∙ each_bounds A bs (suc (suc k)) u 0 (omega arith), arrivals_first A k n,
-      under_so bs k (later (stride T) A) (blocks_rest A (suc k) m) (bounds_rest A bs (suc k) u) (arrivals_rest A k n) (literal_behind T A k T.broken ∙ subst (λ (j : ℕ). is_true A (literal_in T j T.broken) ≡ true) (sym (add-one k)) b))
+  under_so bs (suc k) A m u n b = (
+    blocks_first A (suc k) m,
+    sym (bounds_first A bs) ∙ each_bounds A bs (suc (suc k)) u 0 (omega arith),
+    arrivals_first A k n,
+    under_so bs k (later (stride T) A) (blocks_rest A (suc k) m) (bounds_rest A bs (suc k) u) (arrivals_rest A k n) (literal_behind T A k T.broken ∙ subst (λ (j : ℕ). is_true A (literal_in T j T.broken) ≡ true) (sym (add-one k)) b),
+  )
 
   pub under-from_so : (bs : List Bound) (k : ℕ) (A : ℕ → Bool) → MeetsBreakUnder T bs k A → MeetsAll A (blocks_of T (suc k)) × AreTrue A (bounds_before T bs (suc k)) × AreTrue A (arrivals T k) × (is_true A (literal_in T k T.broken) ≡ true)
   under-from_so bs zero A m = (blocks_joined A zero m.0 refl, bounds_joined A bs zero m.1 refl, refl, first_literal A T.broken ∙ m.2)
@@ -166,7 +174,7 @@ module _ (T : Template) where
   step-from_so k bs A s m =
       let w = under-from_so bs k A m in
       query-from_parts A T (Step (suc k) bs) (met_both A (T.head ++ blocks_of T (suc k)) [] (met_both A T.head (blocks_of T (suc k)) s w.0) refl)
-        (true_both A (bounds_before T bs (suc k)) (breaks_last T (suc k)) w.1 (broken-from A k w.2 w.3))
+      (true_both A (bounds_before T bs (suc k)) (breaks_last T (suc k)) w.1 (broken-from A k w.2 w.3))
 
   complement_moved : (n l : ℕ) → complement_of (moved n l) ≡ moved n (complement_of l)
   complement_moved n l = omega arith
@@ -199,10 +207,11 @@ module _ (T : Template) where
       (blocks_first A 1 m, arrivals_first A 0 next_, blocks_first (later (stride T) A) 0 (blocks_rest A 1 m), sym (leaves_so bs A) ∙ off)
 
   leaving-from_so : (bs : List Bound) (A : ℕ → Bool) → MeetsLeaving T bs A → MeetsAll A (blocks_of T 2) × MeetsAll A (leaves_set T bs)
-  leaving-from_so bs A w =
-      (blocks_joined A 1 w.0 (blocks_joined (later (stride T) A) 0 w.2 refl),
-       met_both A (units (arrivals T 1)) (map complement_of (bounds_at T bs 1) ∷ []) (units_hold A (arrivals T 1) ∙ arrivals_joined A 0 w.1 refl)
-         (clause_one A (map complement_of (bounds_at T bs 1)) (leaves_so bs A ∙ w.3)))
+  leaving-from_so bs A w = (
+    blocks_joined A 1 w.0 (blocks_joined (later (stride T) A) 0 w.2 refl),
+    met_both A (units (arrivals T 1)) (map complement_of (bounds_at T bs 1) ∷ []) (units_hold A (arrivals T 1) ∙ arrivals_joined A 0 w.1 refl)
+        (clause_one A (map complement_of (bounds_at T bs 1)) (leaves_so bs A ∙ w.3)),
+  )
 
   pub first_so : (round : ℕ) (bs : List Bound) (A : ℕ → Bool) → MeetsAll A (query T (First round bs)) → MeetsAll A T.start × MeetsLeaving T bs A
   first_so round bs A m =
@@ -219,14 +228,15 @@ module _ (T : Template) where
   induct_so round bs A m =
       let parts = query_parts A T (Induct round bs) m in
       let front = met_left A (T.head ++ blocks_of T 2) (units (bounds_at T bs 0) ++ leaves_set T bs) parts.0 in
-      let rest = met_right A (T.head ++ blocks_of T 2) (units (bounds_at T bs 0) ++ leaves_set T bs) parts.0 in
-      (met_left A T.head (blocks_of T 2) front,
-       sym (bounds_first A bs) ∙ (sym (units_hold A (bounds_at T bs 0)) ∙ met_left A (units (bounds_at T bs 0)) (leaves_set T bs) rest),
-       leaving_so bs A (met_right A T.head (blocks_of T 2) front) (met_right A (units (bounds_at T bs 0)) (leaves_set T bs) rest))
+      let rest = met_right A (T.head ++ blocks_of T 2) (units (bounds_at T bs 0) ++ leaves_set T bs) parts.0 in (
+        met_left A T.head (blocks_of T 2) front,
+        sym (bounds_first A bs) ∙ (sym (units_hold A (bounds_at T bs 0)) ∙ met_left A (units (bounds_at T bs 0)) (leaves_set T bs) rest),
+        leaving_so bs A (met_right A T.head (blocks_of T 2) front) (met_right A (units (bounds_at T bs 0)) (leaves_set T bs) rest),
+      )
 
   pub induct-from_so : (round : ℕ) (bs : List Bound) (A : ℕ → Bool) → MeetsAll A T.head → AreTrue A (lits_of T.bounds bs) → MeetsLeaving T bs A → MeetsAll A (query T (Induct round bs))
   induct-from_so round bs A s u m =
       let w = leaving-from_so bs A m in
       query-from_parts A T (Induct round bs)
-        (met_both A (T.head ++ blocks_of T 2) (units (bounds_at T bs 0) ++ leaves_set T bs) (met_both A T.head (blocks_of T 2) s w.0)
-          (met_both A (units (bounds_at T bs 0)) (leaves_set T bs) (units_hold A (bounds_at T bs 0) ∙ (bounds_first A bs ∙ u)) w.1)) refl
+      (met_both A (T.head ++ blocks_of T 2) (units (bounds_at T bs 0) ++ leaves_set T bs) (met_both A T.head (blocks_of T 2) s w.0)
+      (met_both A (units (bounds_at T bs 0)) (leaves_set T bs) (units_hold A (bounds_at T bs 0) ∙ (bounds_first A bs ∙ u)) w.1)) refl

@@ -58,25 +58,21 @@ pub fn spent_budget_is_small()
 /// after another.
 pub fn base_block_by_block(t: &Template, k: u32)
     ensures { (A : ℕ → Bool) → MeetsAll A (query t.now (Base (suc k))) ↔ (MeetsAll A t.now.start × MeetsBreak t.now k A) }
-{
-}
+{}
 
 /// The same of k blocks that arrive.
 pub fn forward_block_by_block(t: &Template, k: u32)
     ensures { (A : ℕ → Bool) → MeetsAll A (query t.now (Forward k)) ↔ (MeetsAll A t.now.start × MeetsArrivals t.now k A) }
-{
-}
+{}
 
 /// The same from a loop head, with bounds at the beginning of each block.
 pub fn step_block_by_block(t: &Template, k: u32, under: &Bounds)
     ensures step { (A : ℕ → Bool) → MeetsAll A (query t.now (Step (suc k) under.now)) ↔ (MeetsAll A t.now.head × MeetsBreakUnder t.now under.now k A) }
     ensures closing { (A : ℕ → Bool) → MeetsAll A (query t.now (Closing (suc k) under.now)) ↔ (MeetsAll A t.now.head × MeetsBreakUnder t.now under.now k A) }
-{
-}
+{}
 
 /// The same of one block that arrives where some bound of a set is false.
 pub fn set_block_by_block(t: &Template, round: u32, set: &Bounds)
     ensures first { (A : ℕ → Bool) → MeetsAll A (query t.now (First round set.now)) ↔ (MeetsAll A t.now.start × MeetsLeaving t.now set.now A) }
     ensures induct { (A : ℕ → Bool) → MeetsAll A (query t.now (Induct round set.now)) ↔ (MeetsAll A t.now.head × AreTrue A (lits_of t.now.bounds set.now) × MeetsLeaving t.now set.now A) }
-{
-}
+{}
