@@ -1,0 +1,6 @@
+pub mod Chains
+pub mod Counting
+pub mod Propagation
+pub mod Queries
+pub mod Ranges
+pub mod Truths
