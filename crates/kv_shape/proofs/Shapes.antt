@@ -2,11 +2,11 @@
 -- does.
 use Rattle.std.proofs.Common.{refl, arith, ◌≡◌, ℕ, ◌+◌, ◌*◌, ◌<◌, ◌≤◌, ◌-◌, ◌%◌, ◌^◌, Bool, ℤ, pos, negsuc, neg_ℤ, ◌+ℤ◌, ◌-ℤ◌, ◌*ℤ◌, ◌≤ℤ◌, ◌<ℤ◌, sym, ap, subst, ◌∙◌}
 use Rattle.std.proofs.lemmas.Int.{ints}
-use Rattle.std.proofs.lemmas.Nat.{pow_pos}
+use Rattle.std.proofs.lemmas.Nat.{pow_pos, pow-add}
 use Rattle.std.specs.Int.{int_rem_euclid}
 use Rattle.kv_shape.specs.Shape.{below_at, InShape, wrap_at}
 use Rattle.kv_num.proofs.Congruence.{rem_congruent, one_number}
-use Rattle.kv_num.proofs.Ring.{more_multiple, sum_multiple, difference_multiple, product_multiple}
+use Rattle.kv_num.proofs.Ring.{more_multiple, times-times, sum_multiple, difference_multiple, product_multiple}
 use lib.IntN.{*ℤ_comm}
 
 rem_small : (z : ℤ) (s : ℕ) → 0 < s → (r : ℕ) × (int_rem_euclid z (pos s) ≡ pos r) × (r < s)
@@ -75,3 +75,17 @@ module _ (width : ℕ) (signed : Bool) where
   pub wrap_at-mul : (a b : ℤ) → wrap_at width signed (wrap_at width signed a *ℤ wrap_at width signed b) ≡ wrap_at width signed (a *ℤ b)
   wrap_at-mul a b =
       wrap_at-mul_left a (wrap_at width signed b) ∙ (ap (wrap_at width signed) (*ℤ_comm a (wrap_at width signed b)) ∙ (wrap_at-mul_left b a ∙ ap (wrap_at width signed) (*ℤ_comm b a)))
+
+divides : (w v : ℕ) → w ≤ v → 2 ^ v ≡ 2 ^ (v - w) * 2 ^ w
+divides w v h = ap (λ n. 2 ^ n) whole ∙ pow-add 2 (v - w) w
+  where
+    whole : v ≡ v - w + w
+    whole = omega arith
+
+-- to wrap into a wider range first changes nothing
+pub wrap_at-wrap_at : (w v : ℕ) (s r : Bool) (n : ℤ) → w ≤ v → wrap_at w s (wrap_at v r n) ≡ wrap_at w s n
+wrap_at-wrap_at w v s r n h =
+    let c = wrap_at_congruent v r n in
+    let m : ℤ = pos (2 ^ (v - w)) in
+    let e : c.0 *ℤ pos (2 ^ v) ≡ (c.0 *ℤ m) *ℤ pos (2 ^ w) = ap (λ x. c.0 *ℤ x) (ap pos (divides w v h)) ∙ sym (times-times c.0 m (pos (2 ^ w))) in
+    sym (wrap_at-congruent w s n (wrap_at v r n) (c.0 *ℤ m) (c.1 ∙ ap (λ x. wrap_at v r n +ℤ x) e))
