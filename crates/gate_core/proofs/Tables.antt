@@ -34,17 +34,17 @@ module _ (gs : List Gate) (g : Gate) where
     gates_kept i h = ⊎_elim
         (λ before. subst (IsGateOf (gs ++ g ∷ []) i) (sym (at_front i before)) (gate_kept i (gate_at gs i) (omega arith) (table.gates i before)))
         (λ after.
-          let e : length gs ≡ i = omega (arith, length-append gs (g ∷ [])) in
-          let P : ℕ → Type 0 = λ n. IsGateOf (gs ++ g ∷ []) n (gate_at (gs ++ g ∷ []) n) in
-          subst P e (subst (IsGateOf (gs ++ g ∷ []) (length gs)) (sym at_end) (gate_kept (length gs) g (omega arith) fits)))
+        let e : length gs ≡ i = omega (arith, length-append gs (g ∷ [])) in
+        let P : ℕ → Type 0 = λ n. IsGateOf (gs ++ g ∷ []) n (gate_at (gs ++ g ∷ []) n) in
+        subst P e (subst (IsGateOf (gs ++ g ∷ []) (length gs)) (sym at_end) (gate_kept (length gs) g (omega arith) fits)))
         (cases_lt i (length gs))
 
     distinct_kept : (i j : ℕ) → i < j → j < length (gs ++ g ∷ []) → gate_at (gs ++ g ∷ []) i ≡ gate_at (gs ++ g ∷ []) j → ⊥
     distinct_kept i j p q e = ⊎_elim
         (λ before. table.distinct i j p before (sym (at_front i (omega arith)) ∙ (e ∙ at_front j before)))
         (λ after.
-          let k : j ≡ length gs = omega (arith, length-append gs (g ∷ [])) in
-          new i (omega arith) (sym (at_front i (omega arith)) ∙ (e ∙ (ap (gate_at (gs ++ g ∷ [])) k ∙ at_end))))
+        let k : j ≡ length gs = omega (arith, length-append gs (g ∷ [])) in
+        new i (omega arith) (sym (at_front i (omega arith)) ∙ (e ∙ (ap (gate_at (gs ++ g ∷ [])) k ∙ at_end))))
         (cases_lt j (length gs))
 
     IsTable-push : IsTable (gs ++ g ∷ [])

@@ -51,11 +51,13 @@ module _ (P : ℕ → Bool) (gs : List Gate) where
     settled n i h = stays (suc i) n i (omega arith) (omega arith) ∙ at_last i
 
     pub pattern_agrees : Agrees (truth_of (length gs)) gs
-    pattern_agrees = record { at = λ i h.
-      let e = settled (length gs) i h in
-      e ∙ value_local gs (truth_of i) (truth_of (length gs)) i (gate_at gs i) (table.gates i h)
-      (λ v below. sym (stays i (length gs) v below (omega arith)))
-      (λ input. sym (e ∙ input_value (truth_of i) i (gate_at gs i) input)) }
+    pattern_agrees = record {
+      at = λ i h.
+          let e = settled (length gs) i h in
+          e ∙ value_local gs (truth_of i) (truth_of (length gs)) i (gate_at gs i) (table.gates i h)
+          (λ v below. sym (stays i (length gs) v below (omega arith)))
+          (λ input. sym (e ∙ input_value (truth_of i) i (gate_at gs i) input));
+    }
 
     pub pattern_on_inputs : OnInputs gs P (truth_of (length gs))
     pattern_on_inputs = record { at = λ i h input. settled (length gs) i h ∙ (input_value (truth_of i) i (gate_at gs i) input ∙ from_pattern i i (omega arith)) }
@@ -69,9 +71,9 @@ module _ (gs : List Gate) (table : IsTable gs) (P A B : ℕ → Bool) (a : Agree
   one_below (suc n) h v k = ⊎_elim
       (λ below. one_below n (omega arith) v below)
       (λ above.
-        let e : n ≡ v = omega arith in
-        subst (λ x. A x ≡ B x) e (a.at n (omega arith) ∙ (value_local gs A B n (gate_at gs n) (table.gates n (omega arith)) (one_below n (omega arith))
-        (λ input. p.at n (omega arith) input ∙ sym (q.at n (omega arith) input)) ∙ sym (b.at n (omega arith)))))
+      let e : n ≡ v = omega arith in
+      subst (λ x. A x ≡ B x) e (a.at n (omega arith) ∙ (value_local gs A B n (gate_at gs n) (table.gates n (omega arith)) (one_below n (omega arith))
+      (λ input. p.at n (omega arith) input ∙ sym (q.at n (omega arith) input)) ∙ sym (b.at n (omega arith)))))
       (cases_lt v n)
 
 pub has_one_truth : (gs : List Gate) → IsTable gs → HasOneTruth gs

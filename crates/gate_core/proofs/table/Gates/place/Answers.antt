@@ -24,8 +24,7 @@ one_more false n m e h = omega arith
 pub invariant_of-self-2 : goal.invariant_of-self-2
 invariant_of-self-2 c =
     let e : c.args.self.now ≡ c.self.inside.gates.keys = cc in
-    let P : List Gate → Type 0 = λ gs. IsGateOf gs (length gs) c.args.gate in
-    (
+    let P : List Gate → Type 0 = λ gs. IsGateOf gs (length gs) c.args.gate in (
       subst IsTable (sym c.in_ok-at.ensures.keys) (IsTable-insert_key eq-value.it itself c.self.inside.gates.keys c.args.gate c.self.invariant.0 (subst P e c.requires)),
       one_more c.in_ok-at.field-0-1 _ _ c.in_ok-at.ensures.len (omega arith),
     )
