@@ -24,11 +24,11 @@ pub range-truth : (b : Bool) → HasShape one_bit (truth b)
 range-truth true = record { least = omega (arith, ints); most = omega (arith, ints) }
 range-truth false = record { least = omega (arith, ints); most = omega (arith, ints) }
 
-range-unary : (s : Shape) (op : UnaryOp) (a : ℤ) → HasShape s (unary_value s op a)
+pub range-unary : (s : Shape) (op : UnaryOp) (a : ℤ) → HasShape s (unary_value s op a)
 range-unary s Negate a = range-wrap_at s.width s.signed _
 range-unary s BitNot a = range-wrap_at s.width s.signed (pos (2 ^ s.width - 1 - bits_at s.width a))
 
-range-binary : (s r : Shape) (op : BinaryOp) (a b : ℤ) → HasShape (result_shape op s) (binary_value s r op a b)
+pub range-binary : (s r : Shape) (op : BinaryOp) (a b : ℤ) → HasShape (result_shape op s) (binary_value s r op a b)
 range-binary s r Less a b = range-truth _
 range-binary s r Equal a b = range-truth _
 range-binary s r BitAnd a b = range-wrap_at s.width s.signed (pos (bit_and (bits_at s.width a) (bits_at s.width b)))
