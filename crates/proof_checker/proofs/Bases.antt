@@ -26,6 +26,7 @@ Derived-base F A steps b i lt = below (suc i) i (omega arith) lt
     by_reason i Free ne ih h = absurd (ne refl)
     by_reason i Assumed ne ih h = given (lit_at steps i) h
     by_reason i (Clause m) ne ih h = unit (lit_at steps i) m h.0 h.1 (λ k w d. let e = h.2 k w d in subst (λ (x : ℕ). Derived F A x) e.2 (ih e.0 e.1))
+
     below : (n i : ℕ) → i < n → i < length steps → Derived F A (lit_at steps i)
     below zero i h lt = absurd (omega arith)
     below (suc n) i h lt = by_reason i (reason_at steps i) (b.chosen i lt) (λ j k. below n j (omega arith) (omega arith)) (b.reasons i lt)
@@ -45,8 +46,10 @@ pub IsBase-grow : (F : List (List ℕ)) (A : List ℕ) (xs ys : List Step) → G
 IsBase-grow F A xs ys g b = record {
   reasons = AreReasons-grown F A xs ys g b.reasons;
   chosen = λ i lt e. elim (cases_lt i (length xs)) [
-      inl below ↦ b.chosen i below (ap (λ (x : Step). x.reason) (same_to F xs ys g i below) ∙ e)
-    | inr above ↦ absurd (subst (λ (x : Reason). IsImplied F ys i x) e (g.implied i above lt)) ] }
+    | inl below ↦ b.chosen i below (ap (λ (x : Step). x.reason) (same_to F xs ys g i below) ∙ e)
+    | inr above ↦ absurd (subst (λ (x : Reason). IsImplied F ys i x) e (g.implied i above lt))
+  ];
+}
 
 clash : Assumed ≡ Free → ⊥
 clash f = cc
@@ -59,12 +62,15 @@ IsBase-assume F A xs ys l b has e =
     let last : reason_at zs (length xs) ≡ Assumed = ap (λ (x : Step). x.reason) (get_or_push xs s none_step (length xs) refl) in
     let made : IsBase F A zs = record {
       reasons = λ i h. elim (cases_lt i (length xs)) [
-          inl below ↦ subst (λ (x : Reason). IsReason F A zs i x) (reas i below) (IsReason-same F A xs zs i (reason_at xs i) (λ j k. sym (lit_at-push xs s j (omega arith))) (b.reasons i below))
+        | inl below ↦ subst (λ (x : Reason). IsReason F A zs i x) (reas i below) (IsReason-same F A xs zs i (reason_at xs i) (λ j k. sym (lit_at-push xs s j (omega arith))) (b.reasons i below))
         | inr above ↦ let same : length xs ≡ i = omega (arith, h, length_push xs s) in
-            subst (λ (x : ℕ). IsReason F A zs x (reason_at zs x)) same (subst (λ (x : Reason). IsReason F A zs (length xs) x) (sym last) (subst (λ (x : ℕ). Contains A x) (sym (lit_at-last xs s)) has)) ];
+            subst (λ (x : ℕ). IsReason F A zs x (reason_at zs x)) same (subst (λ (x : Reason). IsReason F A zs (length xs) x) (sym last) (subst (λ (x : ℕ). Contains A x) (sym (lit_at-last xs s)) has))
+      ];
       chosen = λ i h f. elim (cases_lt i (length xs)) [
-          inl below ↦ b.chosen i below (reas i below ∙ f)
-        | inr above ↦ let same : length xs ≡ i = omega (arith, h, length_push xs s) in clash (sym last ∙ subst (λ (x : ℕ). reason_at zs x ≡ Free) (sym same) f) ] } in
+        | inl below ↦ b.chosen i below (reas i below ∙ f)
+        | inr above ↦ let same : length xs ≡ i = omega (arith, h, length_push xs s) in clash (sym last ∙ subst (λ (x : ℕ). reason_at zs x ≡ Free) (sym same) f)
+      ];
+    } in
     subst (λ (x : List Step). IsBase F A x) (sym e) made
 
 pub Contains-negs : (c : List ℕ) (l : ℕ) → Contains c l → Contains (map complement_of c) (complement_of l)
@@ -79,13 +85,15 @@ Contains-from_negs c l w =
 -- the complements of a clause are refuted exactly where it follows
 pub Follows-refuted : (F : List (List ℕ)) (c : List ℕ) → Refuted F (map complement_of c) → Follows F c
 Follows-refuted F c r = elim r [
-    inl k ↦ inl k
-  | inr h ↦ inr (complement_of h.0, Contains-from_negs c h.0 h.1, Contains-from_negs c (complement_of h.0) h.2) ]
+  | inl k ↦ inl k
+  | inr h ↦ inr (complement_of h.0, Contains-from_negs c h.0 h.1, Contains-from_negs c (complement_of h.0) h.2)
+]
 
 pub Refuted-follows : (F : List (List ℕ)) (c : List ℕ) → Follows F c → Refuted F (map complement_of c)
 Refuted-follows F c f = elim f [
-    inl k ↦ inl k
-  | inr h ↦ inr (complement_of h.0, Contains-negs c h.0 h.1, Contains-negs c (complement_of h.0) h.2) ]
+  | inl k ↦ inl k
+  | inr h ↦ inr (complement_of h.0, Contains-negs c h.0 h.1, Contains-negs c (complement_of h.0) h.2)
+]
 
 -- an asked literal whose complement is set
 pub Refuted-clash : (F : List (List ℕ)) (A : List ℕ) (steps : List Step) (truth : List Bool) (place : List ℕ) (l : ℕ) → IsTrail steps truth place → IsBase F A steps → Contains A l → IsSet truth (complement_of l) → Refuted F A
@@ -154,15 +162,18 @@ IsBase-more F c A steps b = record { chosen = b.chosen; reasons = λ i lt. more 
     more i Free h = h
     more i Assumed h = h
     more i (Clause m) h =
-      let e : clause_at (F ++ c ∷ []) m ≡ clause_at F m = get_or_append_left F (c ∷ []) [] m h.0 in
-      let a = h.0 in
-      (omega (arith, length_push F c), subst (λ (x : List ℕ). Contains x (lit_at steps i)) (sym e) h.1,
-       λ k w ne. h.2 k (subst (λ (x : List ℕ). Contains x k) e w) ne)
+        let e : clause_at (F ++ c ∷ []) m ≡ clause_at F m = get_or_append_left F (c ∷ []) [] m h.0 in
+        let a = h.0 in (
+          omega (arith, length_push F c),
+          subst (λ (x : List ℕ). Contains x (lit_at steps i)) (sym e) h.1,
+          λ k w ne. h.2 k (subst (λ (x : List ℕ). Contains x k) e w) ne,
+        )
 
 pub AreInRange-push : (F : List (List ℕ)) (c : List ℕ) (n : ℕ) → AreInRange F n → InRange c n → AreInRange (F ++ c ∷ []) n
 AreInRange-push F c n all one i lt = elim (cases_lt i (length F)) [
-    inl below ↦ subst (λ (x : List ℕ). InRange x n) (sym (get_or_append_left F (c ∷ []) [] i below)) (all i below)
-  | inr above ↦ subst (λ (x : List ℕ). InRange x n) (sym (get_or_push F c [] i (omega (arith, length_push F c)))) one ]
+  | inl below ↦ subst (λ (x : List ℕ). InRange x n) (sym (get_or_append_left F (c ∷ []) [] i below)) (all i below)
+  | inr above ↦ subst (λ (x : List ℕ). InRange x n) (sym (get_or_push F c [] i (omega (arith, length_push F c)))) one
+]
 
 pub AreInRange-wider : (F : List (List ℕ)) (m n : ℕ) → m ≤ n → AreInRange F m → AreInRange F n
 AreInRange-wider F m n le all i lt k h = let r = all i lt k h in omega arith

@@ -16,14 +16,18 @@ use Rattle.proof_checker.specs.Scan.{IsSettled, IsHeld, SoFar}
 -- where each clause is settled, what is set is closed under propagation
 pub closed_from : (F : List (List ℕ)) (truth : List Bool) → ((l : ℕ) → IsSet truth l → IsSet truth (complement_of l) → ⊥) → ((i : ℕ) → i < length F → IsSettled (clause_at F i) truth) → IsClosed F (IsSet truth)
 closed_from F truth apart all = record {
-    no_unit = λ i lt l has others. elim (all i lt) [
-        inl t ↦ elim (cases_eq t.0 l) [ inl e ↦ subst (λ (x : ℕ). IsSet truth x) e t.2 | inr ne ↦ absurd (apart t.0 t.2 (others t.0 t.1 ne)) ]
-      | inr p ↦ elim (cases_eq p.0 l) [
-          inl e ↦ absurd (p.6 (others p.1 p.3 (λ f. p.4 (e ∙ sym f))))
-        | inr ne ↦ absurd (p.5 (others p.0 p.2 ne)) ] ];
-    no_false = λ i lt none. elim (all i lt) [
-        inl t ↦ apart t.0 t.2 (none t.0 t.1)
-      | inr p ↦ p.5 (none p.0 p.2) ] }
+  no_unit = λ i lt l has others. elim (all i lt) [
+    | inl t ↦ elim (cases_eq t.0 l) [ inl e ↦ subst (λ (x : ℕ). IsSet truth x) e t.2 | inr ne ↦ absurd (apart t.0 t.2 (others t.0 t.1 ne)) ]
+    | inr p ↦ elim (cases_eq p.0 l) [
+      | inl e ↦ absurd (p.6 (others p.1 p.3 (λ f. p.4 (e ∙ sym f))))
+      | inr ne ↦ absurd (p.5 (others p.0 p.2 ne))
+    ]
+  ];
+  no_false = λ i lt none. elim (all i lt) [
+    | inl t ↦ apart t.0 t.2 (none t.0 t.1)
+    | inr p ↦ p.5 (none p.0 p.2)
+  ];
+}
 
 -- and then literals that are set are not refuted
 pub not_refuted : (F : List (List ℕ)) (A : List ℕ) (truth : List Bool) → ((l : ℕ) → IsSet truth l → IsSet truth (complement_of l) → ⊥) → ((i : ℕ) → i < length F → IsSettled (clause_at F i) truth) → AreSet A truth → Refuted F A → ⊥

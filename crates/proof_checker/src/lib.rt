@@ -13,8 +13,8 @@ mod refute;
 mod scan;
 mod verdict;
 
-pub use verdict::{Checked, check};
 pub use checker::Checker;
+pub use verdict::{Checked, check};
 
 #[cfg(test)]
 mod tests;

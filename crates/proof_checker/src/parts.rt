@@ -98,7 +98,13 @@ fn settle(alloc: Global, parts: &mut Parts, clause: u32, lit: u32) -> Result<(),
 {
     let from = parts.trail.steps.len();
     parts.trail.push(lit, Reason::Clause(clause))?;
-    match propagate(alloc, &parts.store, &mut parts.trail, &mut parts.watches, from)? {
+    match propagate(
+        alloc,
+        &parts.store,
+        &mut parts.trail,
+        &mut parts.watches,
+        from,
+    )? {
         None => Ok(()),
         Some(_) => {
             parts.is_refuted = true;
@@ -161,5 +167,11 @@ pub fn refuted(alloc: Global, parts: &mut Parts, asked: &[u32]) -> Result<bool, 
     if parts.is_refuted {
         return Ok(true);
     }
-    refute(alloc, &parts.store, &mut parts.trail, &mut parts.watches, asked)
+    refute(
+        alloc,
+        &parts.store,
+        &mut parts.trail,
+        &mut parts.watches,
+        asked,
+    )
 }

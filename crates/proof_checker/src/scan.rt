@@ -8,9 +8,8 @@ ghost use Rattle.sat_engine.specs.Grow.{Grows};
 ghost use Rattle.proof_checker.specs.Scan.{ClassSays, ScanSays, Closes};
 
 use kv_base::NoMemory;
-use std::alloc::Global;
-
 use sat_engine::{Reason, Store, Trail, Watches, complement, propagate};
+use std::alloc::Global;
 
 /// What a clause is under the literals set true.
 #[derive(Clone, Copy, Debug)]
@@ -81,7 +80,13 @@ fn scan_all(store: &Store, truth: &[bool]) -> Scan
 }
 
 /// Propagates to the end: true where a clause is false then, and false where each clause is settled.
-pub fn close(alloc: Global, store: &Store, trail: &mut Trail, watches: &mut Watches, from: usize) -> Result<bool, NoMemory>
+pub fn close(
+    alloc: Global,
+    store: &Store,
+    trail: &mut Trail,
+    watches: &mut Watches,
+    from: usize,
+) -> Result<bool, NoMemory>
     requires range { AreInRange store.now (length trail.old.truth.items) }
     requires few { length store.now < 4294967296 }
     ensures grows { OnOk result (Grows store.now trail.old.steps.items trail.new.steps.items) }

@@ -23,9 +23,11 @@ pub IsImplied-same : (F : List (List ℕ)) (xs ys : List Step) (i : ℕ) (r : Re
 IsImplied-same F xs ys i Free same h = h
 IsImplied-same F xs ys i Assumed same h = h
 IsImplied-same F xs ys i (Clause n) same h =
-    let here : lit_at xs i ≡ lit_at ys i = same i (omega arith) in
-    (h.0, subst (λ (x : ℕ). Contains (clause_at F n) x) here h.1,
-     λ m w ne. Before-same xs ys i (complement_of m) (λ j lt. same j (omega arith)) (h.2 m w (λ e. ne (e ∙ here))))
+    let here : lit_at xs i ≡ lit_at ys i = same i (omega arith) in (
+      h.0,
+      subst (λ (x : ℕ). Contains (clause_at F n) x) here h.1,
+      λ m w ne. Before-same xs ys i (complement_of m) (λ j lt. same j (omega arith)) (h.2 m w (λ e. ne (e ∙ here))),
+    )
 
 pub IsReason-same : (F : List (List ℕ)) (A : List ℕ) (xs ys : List Step) (i : ℕ) (r : Reason) → ((j : ℕ) → j ≤ i → lit_at xs j ≡ lit_at ys j) → IsReason F A xs i r → IsReason F A ys i r
 IsReason-same F A xs ys i Free same h = h
@@ -44,33 +46,38 @@ Grows-push F xs ys l n g lt has others =
       longer = let a = g.longer in omega arith;
       front = take-append-le (length xs) ys (s ∷ []) g.longer ∙ g.front;
       implied = λ i h k. elim (cases_lt i (length ys)) [
-          inl below ↦
+        | inl below ↦
             let r : reason_at ys i ≡ reason_at zs i = ap (λ (x : Step). x.reason) (sym (get_or_append_left ys (s ∷ []) none_step i below)) in
             subst (λ (x : Reason). IsImplied F zs i x) r (IsImplied-same F ys zs i (reason_at ys i) (λ j le. sym (lit_at-push ys s j (omega arith))) (g.implied i h below))
         | inr above ↦
             let e : length ys ≡ i = omega arith in
-            subst (λ (x : ℕ). IsImplied F zs x (reason_at zs x)) e (last ys l n lt has others) ] }
+            subst (λ (x : ℕ). IsImplied F zs x (reason_at zs x)) e (last ys l n lt has others)
+      ];
+    }
   where
     last : (ys : List Step) (l n : ℕ) → n < length F → Contains (clause_at F n) l → ((m : ℕ) → Contains (clause_at F n) m → m ≢ l → Before ys (length ys) (complement_of m))
-      → IsImplied F (ys ++ record { lit = l; reason = Clause n } ∷ []) (length ys) (reason_at (ys ++ record { lit = l; reason = Clause n } ∷ []) (length ys))
+        → IsImplied F (ys ++ record { lit = l; reason = Clause n } ∷ []) (length ys) (reason_at (ys ++ record { lit = l; reason = Clause n } ∷ []) (length ys))
     last ys l n lt has others =
-      let s : Step = record { lit = l; reason = Clause n } in
-      let zs : List Step = ys ++ s ∷ [] in
-      let here : lit_at zs (length ys) ≡ l = lit_at-last ys s in
-      let r : reason_at zs (length ys) ≡ Clause n = ap (λ (x : Step). x.reason) (get_or_push ys s none_step (length ys) refl) in
-      subst (λ (x : Reason). IsImplied F zs (length ys) x) (sym r)
-        (lt, subst (λ (x : ℕ). Contains (clause_at F n) x) (sym here) has,
-         λ m w ne. Before-same ys zs (length ys) (complement_of m) (λ j h. sym (lit_at-push ys s j h)) (others m w (λ e. ne (e ∙ sym here))))
+        let s : Step = record { lit = l; reason = Clause n } in
+        let zs : List Step = ys ++ s ∷ [] in
+        let here : lit_at zs (length ys) ≡ l = lit_at-last ys s in
+        let r : reason_at zs (length ys) ≡ Clause n = ap (λ (x : Step). x.reason) (get_or_push ys s none_step (length ys) refl) in
+        subst (λ (x : Reason). IsImplied F zs (length ys) x) (sym r) (
+          lt,
+          subst (λ (x : ℕ). Contains (clause_at F n) x) (sym here) has,
+          λ m w ne. Before-same ys zs (length ys) (complement_of m) (λ j h. sym (lit_at-push ys s j h)) (others m w (λ e. ne (e ∙ sym here))),
+        )
 
 -- what `Grows` keeps
 pub AreReasons-grown : (F : List (List ℕ)) (A : List ℕ) (xs ys : List Step) → Grows F xs ys → AreReasons F A xs → AreReasons F A ys
 AreReasons-grown F A xs ys g all i lt = elim (cases_lt i (length xs)) [
-    inl below ↦
+  | inl below ↦
       let same : (j : ℕ) → j < length xs → get_or xs j none_step ≡ get_or ys j none_step =
-        λ j h. ap (λ (x : List Step). get_or x j none_step) (sym g.front) ∙ get_or-take (length xs) ys j none_step h in
+      λ j h. ap (λ (x : List Step). get_or x j none_step) (sym g.front) ∙ get_or-take (length xs) ys j none_step h in
       let r : reason_at xs i ≡ reason_at ys i = ap (λ (x : Step). x.reason) (same i below) in
       subst (λ (x : Reason). IsReason F A ys i x) r (IsReason-same F A xs ys i (reason_at xs i) (λ j le. ap (λ (x : Step). x.lit) (same j (omega arith))) (all i below))
-  | inr above ↦ weaken (reason_at ys i) (g.implied i above lt) ]
+  | inr above ↦ weaken (reason_at ys i) (g.implied i above lt)
+]
   where
     weaken : (r : Reason) → IsImplied F ys i r → IsReason F A ys i r
     weaken Free h = absurd h
@@ -89,13 +96,15 @@ Grows-trans F xs ys zs g h = record {
   longer = let a = g.longer in let b = h.longer in omega arith;
   front = sym (take-take (length xs) (length ys) zs g.longer) ∙ ap (take (length xs)) h.front ∙ g.front;
   implied = λ i a b. elim (cases_lt i (length ys)) [
-      inl below ↦
+    | inl below ↦
         let r : reason_at ys i ≡ reason_at zs i = ap (λ (x : Step). x.reason) (same_to F ys zs h i below) in
         subst (λ (x : Reason). IsImplied F zs i x) r
-          (IsImplied-same F ys zs i (reason_at ys i) (λ j le. ap (λ (x : Step). x.lit) (same_to F ys zs h j (omega arith))) (g.implied i a below))
-    | inr above ↦ h.implied i above b ] }
+        (IsImplied-same F ys zs i (reason_at ys i) (λ j le. ap (λ (x : Step). x.lit) (same_to F ys zs h j (omega arith))) (g.implied i a below))
+    | inr above ↦ h.implied i above b
+  ];
+}
 
 pub Grows-imply : (F : List (List ℕ)) (xs ys : List Step) (truth : List Bool) (place : List ℕ) (l n : ℕ) → IsTrail xs truth place → n < length F → Contains (clause_at F n) l → AreFalseBut (clause_at F n) truth l
-  → ys ≡ xs ++ record { lit = l; reason = Clause n } ∷ [] → Grows F xs ys
+    → ys ≡ xs ++ record { lit = l; reason = Clause n } ∷ [] → Grows F xs ys
 Grows-imply F xs ys truth place l n t lt has others e =
     subst (λ (x : List Step). Grows F xs x) (sym e) (Grows-push F xs xs l n (Grows-refl F xs) lt has (λ m w ne. Before-set xs truth place t (complement_of m) (others m w ne)))

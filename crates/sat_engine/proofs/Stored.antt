@@ -24,7 +24,7 @@ clauses_of-append lits c (h ∷ hs) fit =
 
 -- the literals pushed last are the last clause
 pub clauses_of-push : (lits c : List ℕ) (heads : List Head) (s e : ℕ) → s ≡ length lits → e ≡ length lits + length c → HeadsFit lits heads
-  → clauses_of (lits ++ c) (heads ++ record { start = s; end = e } ∷ []) ≡ clauses_of lits heads ++ c ∷ []
+    → clauses_of (lits ++ c) (heads ++ record { start = s; end = e } ∷ []) ≡ clauses_of lits heads ++ c ∷ []
 clauses_of-push lits c heads s e p q fit =
     let last : take (e - s) (drop s (lits ++ c)) ≡ c = ap (take (e - s)) (drop_at lits c s (sym p)) ∙ take_all (e - s) c (omega arith) in
     map-append (clause_of (lits ++ c)) heads (record { start = s; end = e } ∷ [])

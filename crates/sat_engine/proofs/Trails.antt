@@ -29,28 +29,31 @@ IsTrail-pop xs s truth place t =
       even = rw (length-set truth s.lit false) t.even;
       wide = rw (length-set truth s.lit false) t.wide;
       on = λ i h.
-        let w = t.on i (omega arith) in
-        let w0 : lit_at xs i < length truth = subst (λ (x : ℕ). x < length truth) (lit_at-push xs s i h) w.0 in
-        let w1 : IsSet truth (lit_at xs i) = subst (λ (x : ℕ). IsSet truth x) (lit_at-push xs s i h) w.1 in
-        let w2 : get_or place (lit_at xs i / 2) 0 ≡ i = subst (λ (x : ℕ). get_or place (x / 2) 0 ≡ i) (lit_at-push xs s i h) w.2 in
-        let apart : lit_at xs i ≢ s.lit = λ e. let same : i ≡ length xs = sym w2 ∙ subst (λ (x : ℕ). get_or place (x / 2) 0 ≡ length xs) (sym e) at_last in omega arith in
-        (omega (arith, length-set truth s.lit false), get_or-set_other truth s.lit (lit_at xs i) false false apart ∙ w1, w2);
+          let w = t.on i (omega arith) in
+          let w0 : lit_at xs i < length truth = subst (λ (x : ℕ). x < length truth) (lit_at-push xs s i h) w.0 in
+          let w1 : IsSet truth (lit_at xs i) = subst (λ (x : ℕ). IsSet truth x) (lit_at-push xs s i h) w.1 in
+          let w2 : get_or place (lit_at xs i / 2) 0 ≡ i = subst (λ (x : ℕ). get_or place (x / 2) 0 ≡ i) (lit_at-push xs s i h) w.2 in
+          let apart : lit_at xs i ≢ s.lit = λ e. let same : i ≡ length xs = sym w2 ∙ subst (λ (x : ℕ). get_or place (x / 2) 0 ≡ length xs) (sym e) at_last in omega arith in
+          (omega (arith, length-set truth s.lit false), get_or-set_other truth s.lit (lit_at xs i) false false apart ∙ w1, w2);
       found = λ l h. elim (cases_eq l s.lit) [
-          inl e ↦ absurd (gone l e h)
+        | inl e ↦ absurd (gone l e h)
         | inr ne ↦
             let w = t.found l (sym (get_or-set_other truth s.lit l false false ne) ∙ h) in
             let p = get_or place (l / 2) 0 in
             let inside : p < length xs = elim (cases_eq p (length xs)) [
-                inl e ↦ absurd (ne (sym w.1 ∙ ap (lit_at (xs ++ s ∷ [])) e ∙ lit_at-last xs s))
-              | inr other ↦ omega arith ] in
-            (inside, sym (lit_at-push xs s p inside) ∙ w.1) ] }
+              | inl e ↦ absurd (ne (sym w.1 ∙ ap (lit_at (xs ++ s ∷ [])) e ∙ lit_at-last xs s))
+              | inr other ↦ omega arith
+            ] in
+            (inside, sym (lit_at-push xs s p inside) ∙ w.1)
+      ];
+    }
   where
     gone : (l : ℕ) → l ≡ s.lit → IsSet (set truth s.lit false) l → ⊥
     gone l e h =
-      let len : length (xs ++ s ∷ []) ≡ length xs + 1 = length_push xs s in
-      let last = t.on (length xs) (omega arith) in
-      let lt : s.lit < length truth = subst (λ (x : ℕ). x < length truth) (lit_at-last xs s) last.0 in
-      false≢true (sym (get_or-set_same truth s.lit false false lt) ∙ ap (λ (x : ℕ). get_or (set truth s.lit false) x false) (sym e) ∙ h)
+        let len : length (xs ++ s ∷ []) ≡ length xs + 1 = length_push xs s in
+        let last = t.on (length xs) (omega arith) in
+        let lt : s.lit < length truth = subst (λ (x : ℕ). x < length truth) (lit_at-last xs s) last.0 in
+        false≢true (sym (get_or-set_same truth s.lit false false lt) ∙ ap (λ (x : ℕ). get_or (set truth s.lit false) x false) (sym e) ∙ h)
 
 -- what holds at each index of a clause holds of each literal in it
 pub each_Contains : (P : ℕ → Type 0) (c : List ℕ) → ((k : ℕ) → k < length c → P (get_or c k 0)) → (m : ℕ) → Contains c m → P m
@@ -64,12 +67,12 @@ IsTrail-length steps truth place t =
     let len : length xs ≡ length steps = length-map steps f in
     let at : (i : ℕ) → i < length steps → get_or xs i 0 ≡ lit_at steps i = λ i h. get_or-map f steps i none_step 0 h in
     let h : length xs ≤ length truth = distinct_below xs (length truth)
-        (λ i j lt below e.
-          let a = (t.on i (omega arith)).2 in
-          let b = (t.on j (omega arith)).2 in
-          let s : lit_at steps i ≡ lit_at steps j = sym (at i (omega arith)) ∙ e ∙ at j (omega arith) in
-          let same : i ≡ j = sym a ∙ ap (λ (x : ℕ). get_or place (x / 2) 0) s ∙ b in omega arith)
-        (λ i lt. let a = (t.on i (omega arith)).0 in let g = at i (omega arith) in omega arith) in
+    (λ i j lt below e.
+    let a = (t.on i (omega arith)).2 in
+    let b = (t.on j (omega arith)).2 in
+    let s : lit_at steps i ≡ lit_at steps j = sym (at i (omega arith)) ∙ e ∙ at j (omega arith) in
+    let same : i ≡ j = sym a ∙ ap (λ (x : ℕ). get_or place (x / 2) 0) s ∙ b in omega arith)
+    (λ i lt. let a = (t.on i (omega arith)).0 in let g = at i (omega arith) in omega arith) in
     omega arith
 
 -- room for further variables changes nothing of what is set
@@ -87,7 +90,8 @@ IsTrail-place steps truth place t =
       wide = let w = t.wide in omega (arith, length_push place 0);
       on = λ i h. let w = t.on i h in (w.0, w.1, sym (same (lit_at steps i / 2)) ∙ w.2);
       found = λ l h. let w = t.found l h in
-        (subst (λ (x : ℕ). x < length steps) (same (l / 2)) w.0, subst (λ (x : ℕ). lit_at steps x ≡ l) (same (l / 2)) w.1) }
+          (subst (λ (x : ℕ). x < length steps) (same (l / 2)) w.0, subst (λ (x : ℕ). lit_at steps x ≡ l) (same (l / 2)) w.1);
+    }
 
 pub IsTrail-truth : (steps : List Step) (truth : List Bool) (place : List ℕ) → IsTrail steps truth place → length truth + 2 ≤ 2 * length place → IsTrail steps (truth ++ false ∷ false ∷ []) place
 IsTrail-truth steps truth place t room =
@@ -97,7 +101,8 @@ IsTrail-truth steps truth place t room =
       even = let e = t.even in omega arith;
       wide = omega arith;
       on = λ i h. let w = t.on i h in let lt = w.0 in (omega arith, same (lit_at steps i) ∙ w.1, w.2);
-      found = λ l h. t.found l (sym (same l) ∙ h) }
+      found = λ l h. t.found l (sym (same l) ∙ h);
+    }
   where
     two : (truth : List Bool) (l : ℕ) → get_or (truth ++ false ∷ false ∷ []) l false ≡ get_or truth l false
     two [] zero = refl

@@ -1,8 +1,8 @@
 ghost use Rattle.std.specs.Prelude.{◌≡◌, ℕ, ◌+◌, ◌*◌, ◌/◌, ◌%◌, ◌<◌, ◌≤◌, Bool, true, false, length};
 ghost use Rattle.sat_engine.specs.Look.{InRange, LookSays};
 
-use crate::trail::Reason;
 use crate::literal::complement;
+use crate::trail::Reason;
 
 /// What a clause says beside one of its literals.
 #[derive(Clone, Copy, Debug)]

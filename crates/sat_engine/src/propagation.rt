@@ -5,14 +5,13 @@ ghost use Rattle.kv_clause.specs.Propagation.{clause_at};
 ghost use Rattle.sat_engine.specs.Look.{AreInRange, AreFalse, AreFalseBut};
 ghost use Rattle.sat_engine.specs.Grow.{Grows};
 
-use kv_base::NoMemory;
-use std::alloc::Global;
-
+use crate::literal::complement;
 use crate::look::{Seen, look_at};
 use crate::store::Store;
 use crate::trail::{Reason, Trail};
 use crate::watch::{Watch, Watches};
-use crate::literal::complement;
+use kv_base::NoMemory;
+use std::alloc::Global;
 
 fn is_true(truth: &[bool], lit: u32) -> bool {
     match truth.get(lit as usize) {
@@ -42,7 +41,13 @@ pub fn imply(store: &Store, trail: &mut Trail, clause: u32, lit: u32) -> Result<
 }
 
 /// Propagates the false literal `lit` through the clauses that watch it.
-fn visit(store: &Store, trail: &mut Trail, watches: &mut Watches, list: &mut Vec<Watch>, lit: u32) -> Result<Option<u32>, NoMemory>
+fn visit(
+    store: &Store,
+    trail: &mut Trail,
+    watches: &mut Watches,
+    list: &mut Vec<Watch>,
+    lit: u32,
+) -> Result<Option<u32>, NoMemory>
     requires range { AreInRange store.now (length trail.old.truth.items) }
     ensures grows { Grows store.now trail.old.steps.items trail.new.steps.items }
     ensures size { length trail.new.truth.items ≡ length trail.old.truth.items }
@@ -57,7 +62,10 @@ fn visit(store: &Store, trail: &mut Trail, watches: &mut Watches, list: &mut Vec
         }
         let other = watches.other(watch.clause, lit);
         if is_true(&trail.truth, other) {
-            list[i] = Watch { clause: watch.clause, blocker: other };
+            list[i] = Watch {
+                clause: watch.clause,
+                blocker: other,
+            };
             i += 1;
             continue;
         }
@@ -79,7 +87,13 @@ fn visit(store: &Store, trail: &mut Trail, watches: &mut Watches, list: &mut Vec
 }
 
 /// Propagates the literals of the trail from `from` on, and gives a false clause where one was found.
-pub fn propagate(alloc: Global, store: &Store, trail: &mut Trail, watches: &mut Watches, from: usize) -> Result<Option<u32>, NoMemory>
+pub fn propagate(
+    alloc: Global,
+    store: &Store,
+    trail: &mut Trail,
+    watches: &mut Watches,
+    from: usize,
+) -> Result<Option<u32>, NoMemory>
     requires range { AreInRange store.now (length trail.old.truth.items) }
     ensures grows { Grows store.now trail.old.steps.items trail.new.steps.items }
     ensures size { length trail.new.truth.items ≡ length trail.old.truth.items }

@@ -42,13 +42,7 @@ impl Watches {
     /// The clause's watched literal that is not `lit`.
     pub fn other(&self, clause: u32, lit: u32) -> u32 {
         match self.pairs.get(clause as usize) {
-            Some(pair) => {
-                if pair.one == lit {
-                    pair.two
-                } else {
-                    pair.one
-                }
-            }
+            Some(pair) => { if pair.one == lit { pair.two } else { pair.one } }
             None => lit,
         }
     }
@@ -63,8 +57,20 @@ impl Watches {
     /// Watches two literals of the next clause, whose number is `clause`.
     pub fn add(&mut self, clause: u32, one: u32, two: u32) -> Result<(), NoMemory> {
         self.pairs.push(Pair { one, two })?;
-        self.put(one, Watch { clause, blocker: two })?;
-        self.put(two, Watch { clause, blocker: one })
+        self.put(
+            one,
+            Watch {
+                clause,
+                blocker: two,
+            },
+        )?;
+        self.put(
+            two,
+            Watch {
+                clause,
+                blocker: one,
+            },
+        )
     }
 
     /// Leaves out the next clause, which need not be looked at again.
@@ -76,9 +82,18 @@ impl Watches {
     /// Watches `to` beside `other`. The list that `to` replaces stays with the caller.
     pub fn rewatch(&mut self, clause: u32, other: u32, to: u32) -> Result<(), NoMemory> {
         if let Some(pair) = self.pairs.get_mut(clause as usize) {
-            *pair = Pair { one: other, two: to };
+            *pair = Pair {
+                one: other,
+                two: to,
+            };
         }
-        self.put(to, Watch { clause, blocker: other })
+        self.put(
+            to,
+            Watch {
+                clause,
+                blocker: other,
+            },
+        )
     }
 
     /// Takes out what watches the literal.

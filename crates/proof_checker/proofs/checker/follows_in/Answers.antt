@@ -11,5 +11,5 @@ by_complements (Err x) F A c e h = tt
 pub returns-clause-exact : goal.returns-clause-exact
 returns-clause-exact c =
     by_complements c.refuted_in.result c.args.parts.now.store c.as_slice-3.result.now c.args.clause.now
-      (c.as_slice-3.ensures.value ∙ c.in_ok-asked.ensures ∙ ap (map complement_of) (c.as_slice-2.ensures.value ∙ c.in_ok-lits.ensures ∙ c.as_slice.ensures))
-      c.refuted_in.ensures.exact
+    (c.as_slice-3.ensures.value ∙ c.in_ok-asked.ensures ∙ ap (map complement_of) (c.as_slice-2.ensures.value ∙ c.in_ok-lits.ensures ∙ c.as_slice.ensures))
+    c.refuted_in.ensures.exact

@@ -6,4 +6,5 @@ abbrev pub invariant-loop-lit : goal.invariant-loop-lit
 invariant-loop-lit l = record {
   ready : IsReady l.parts;
   store : l.parts.store ≡ l.initial.parts.store;
-  room : (k : ℕ) → k < l.lit-index → get_or l.lits k 0 < length l.parts.trail.truth.items }
+  room : (k : ℕ) → k < l.lit-index → get_or l.lits k 0 < length l.parts.trail.truth.items;
+}

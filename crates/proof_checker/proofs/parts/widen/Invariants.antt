@@ -6,7 +6,8 @@ abbrev pub invariant-rooms : goal.invariant-rooms
 invariant-rooms l = record {
   ready : IsReady l.parts;
   store : l.parts.store ≡ l.initial.parts.store;
-  wider : length l.initial.parts.trail.truth.items ≤ length l.parts.trail.truth.items }
+  wider : length l.initial.parts.trail.truth.items ≤ length l.parts.trail.truth.items;
+}
 
 abbrev pub decreases-rooms : goal.decreases-rooms
 decreases-rooms l = l.lit + 1 - length l.parts.trail.truth.items

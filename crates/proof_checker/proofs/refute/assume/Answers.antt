@@ -15,7 +15,8 @@ loop-lit-init c = record {
   base = IsBase-wider c.args.store.now c.args.asked.now c.args.trail.now.steps.items c.requires.base;
   front = IsFront-refl c.args.trail.now.steps.items;
   size = refl;
-  on = λ k h. absurd (omega arith) }
+  on = λ k h. absurd (omega arith);
+}
 
 pub returns-then-index : goal.returns-then-index
 returns-then-index c =
@@ -25,8 +26,8 @@ returns-then-index c =
     let l : ℕ = get_or A i 0 in
     let r = c.requires.range i c.loop-lit-test.true in
     let off : IsSet t.truth.items (complement_of l) =
-      subst (λ (x : ℕ). IsSet t.truth.items x) c.complement.ensures
-        (sym (get_or_read t.truth.items c.complement.result c.index.result.now (omega (arith, r, c.loop-lit.invariant.size, t.ok.even, c.complement.ensures)) c.index.ensures false) ∙ c.if-index.true) in
+    subst (λ (x : ℕ). IsSet t.truth.items x) c.complement.ensures
+    (sym (get_or_read t.truth.items c.complement.result c.index.result.now (omega (arith, r, c.loop-lit.invariant.size, t.ok.even, c.complement.ensures)) c.index.ensures false) ∙ c.if-index.true) in
     ((Refuted-clash c.args.store.now A t.steps.items t.truth.items t.place.items l t.ok c.loop-lit.invariant.base (Contains-get_or A i 0 c.loop-lit-test.true) off, c.loop-lit.invariant.front), c.loop-lit.invariant.size)
 
 pub loop-lit-preserved : goal.loop-lit-preserved
@@ -43,8 +44,9 @@ loop-lit-preserved c =
       front = IsFront-push c.args.trail.now.steps.items t.steps.items n.steps.items s c.loop-lit.invariant.front c.in_ok-push.ensures.ok;
       size = c.push.ensures.size ∙ c.loop-lit.invariant.size;
       on = below_more (λ (k : ℕ). IsSet n.truth.items (get_or A k 0)) i
-        (λ k lt. set_push t.steps.items n.steps.items s t.truth.items n.truth.items t.place.items n.place.items (get_or A k 0) t.ok n.ok c.in_ok-push.ensures.ok (c.loop-lit.invariant.on k lt))
-        (set_last t.steps.items n.steps.items s n.truth.items n.place.items n.ok c.in_ok-push.ensures.ok) }
+          (λ k lt. set_push t.steps.items n.steps.items s t.truth.items n.truth.items t.place.items n.place.items (get_or A k 0) t.ok n.ok c.in_ok-push.ensures.ok (c.loop-lit.invariant.on k lt))
+          (set_last t.steps.items n.steps.items s n.truth.items n.place.items n.ok c.in_ok-push.ensures.ok);
+    }
 
 pub returns : goal.returns
 returns c =

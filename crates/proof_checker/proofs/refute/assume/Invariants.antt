@@ -8,4 +8,5 @@ invariant-loop-lit l = record {
   base : IsBase l.store l.asked l.trail.steps.items;
   front : IsFront l.initial.trail.steps.items l.trail.steps.items;
   size : length l.trail.truth.items ≡ length l.initial.trail.truth.items;
-  on : (k : ℕ) → k < l.lit-index → IsSet l.trail.truth.items (get_or l.asked k 0) }
+  on : (k : ℕ) → k < l.lit-index → IsSet l.trail.truth.items (get_or l.asked k 0);
+}

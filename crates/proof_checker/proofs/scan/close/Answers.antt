@@ -73,4 +73,5 @@ rounds-preserved c =
     let n = c.push.new.self in
     record {
       grows = Grows-trans F _ _ _ c.rounds.invariant.grows (Grows-trans F _ _ _ c.propagate.ensures.grows (Grows-imply F t.steps.items n.steps.items T t.place.items c.in-Unit.m c.in-Unit.i t.ok h.0 h.1 h.2 c.in_ok-push-in-Unit.ensures.ok));
-      size = c.push.ensures.size ∙ c.propagate.ensures.size ∙ c.rounds.invariant.size }
+      size = c.push.ensures.size ∙ c.propagate.ensures.size ∙ c.rounds.invariant.size;
+    }

@@ -6,4 +6,5 @@ abbrev pub invariant-loop-step : goal.invariant-loop-step
 invariant-loop-step l = record {
   clauses : l.checker.clauses ≡ l.cnf.clauses ++ take l.step l.clause-items;
   follow : FollowsTo l.cnf.clauses l.clause-items l.step;
-  nonempty : NoneEmptyTo l.clause-items l.step }
+  nonempty : NoneEmptyTo l.clause-items l.step;
+}

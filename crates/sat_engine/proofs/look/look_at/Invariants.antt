@@ -8,4 +8,5 @@ abbrev pub invariant-loop-m : goal.invariant-loop-m
 invariant-loop-m l = record {
   others : (k : ℕ) → k < l.m-index → get_or l.clause k 0 ≢ l.other → IsSet l.truth (complement_of (get_or l.clause k 0));
   seen : l.found ≡ true → Contains l.clause l.other;
-  none : (k : ℕ) → k < l.m-index → get_or l.clause k 0 ≡ l.other → l.found ≡ true }
+  none : (k : ℕ) → k < l.m-index → get_or l.clause k 0 ≡ l.other → l.found ≡ true;
+}

@@ -11,4 +11,5 @@ returns-then-is_some-clause-grows c = Grows-trans c.args.store.now _ _ _ c.loop-
 pub loop-head-preserved : goal.loop-head-preserved
 loop-head-preserved c = record {
   grows = Grows-trans c.args.store.now _ _ _ c.loop-head.invariant.grows c.visit.ensures.grows;
-  size = c.visit.ensures.size ∙ c.loop-head.invariant.size }
+  size = c.visit.ensures.size ∙ c.loop-head.invariant.size;
+}

@@ -11,4 +11,5 @@ returns-then-branch-clause-grows c = Grows-trans c.args.store.now _ _ _ c.loop-i
 pub loop-i-preserved : goal.loop-i-preserved
 loop-i-preserved c = record {
   grows = Grows-trans c.args.store.now _ _ _ c.loop-i.invariant.grows c.imply.ensures.grows;
-  size = c.imply.ensures.size ∙ c.loop-i.invariant.size }
+  size = c.imply.ensures.size ∙ c.loop-i.invariant.size;
+}

@@ -5,6 +5,8 @@ use Rattle.sat_engine.proofs.Trails.{IsTrail-pop}
 use Rattle.sat_engine.proofs.trail.Trail.cut.Goals as goal
 
 pub invariant_of-self : goal.invariant_of-self
-invariant_of-self c = record { ok =
-    IsTrail-pop c.pop.new.self.items c.in-Some.step c.loop-self.self.truth.items c.loop-self.self.place.items
-    (subst (λ (x : List Step). IsTrail x c.loop-self.self.truth.items c.loop-self.self.place.items) c.in-Some.ensures.items c.loop-self.self.ok) }
+invariant_of-self c = record {
+  ok =
+      IsTrail-pop c.pop.new.self.items c.in-Some.step c.loop-self.self.truth.items c.loop-self.self.place.items
+      (subst (λ (x : List Step). IsTrail x c.loop-self.self.truth.items c.loop-self.self.place.items) c.in-Some.ensures.items c.loop-self.self.ok);
+}
