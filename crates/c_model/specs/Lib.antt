@@ -1,3 +1,9 @@
 pub mod Tokens
 pub mod Early
 pub mod Machine
+pub mod Words
+pub mod Pieces
+pub mod Constants
+pub mod Headers
+pub mod Directives
+pub mod Reading

@@ -1,0 +1,9 @@
+pub mod Rows
+pub mod Runs
+pub mod Fronts
+pub mod Escapes
+pub mod Numbers
+pub mod HeaderRows
+pub mod Forms
+pub mod Tables
+pub mod Steps

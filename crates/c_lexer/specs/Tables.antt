@@ -1,0 +1,30 @@
+-- What the code keeps of names as the definition's.
+use Rattle.std.specs.Prelude.{◌≡◌, ℕ, Bool, true, false, List, map, Option, Some, None, Vec}
+use Rattle.c_model.specs.Reading.{Names as SpecNames, given}
+use Rattle.c_lexer.specs.Rows.{rows}
+use Rattle.c_lexer.specs.declared.names.Names.{Names}
+use Rattle.c_lexer.specs.declared.names.Definition.{Definition}
+
+abbrev pub texts_view : {Z : Type 0} → List (Vec ℕ Z) → List (List ℕ)
+texts_view texts = map (λ text. text.items) texts
+
+abbrev pub definitions : List Definition → List (List ℕ × List ℕ)
+definitions defined = map (λ definition. (definition.name.items, definition.text.items)) defined
+
+abbrev pub names_view : Names → SpecNames
+names_view names = record {
+  defined = definitions names.defined.items;
+  limits = names.limits;
+  stdbool = names.stdbool;
+  stddef = names.stddef;
+  stdint = names.stdint;
+}
+
+-- the rows that are kept are those of the included headers
+abbrev pub IsKnown : Names → Type 0
+IsKnown names = rows names.given.items ≡ given names.model (names_view names)
+
+-- what a directive did to names: it was taken, and they are so now, or it was not
+abbrev pub Tells : Bool → Option SpecNames → SpecNames → Type 0
+Tells true answer now = answer ≡ Some now
+Tells false answer now = answer ≡ None

@@ -1,0 +1,4 @@
+pub mod Scans
+pub mod Bases
+pub mod Ready
+pub mod Checkings

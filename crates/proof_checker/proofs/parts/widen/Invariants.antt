@@ -1,0 +1,13 @@
+use Rattle.std.proofs.Common.{◌≡◌, ◌+◌, ◌-◌, ◌≤◌, length}
+use Rattle.proof_checker.specs.Parts.{IsReady}
+use Rattle.proof_checker.proofs.parts.widen.Given as goal
+
+abbrev pub invariant-rooms : goal.invariant-rooms
+invariant-rooms l = record {
+  ready : IsReady l.parts;
+  store : l.parts.store ≡ l.initial.parts.store;
+  wider : length l.initial.parts.trail.truth.items ≤ length l.parts.trail.truth.items;
+}
+
+abbrev pub decreases-rooms : goal.decreases-rooms
+decreases-rooms l = l.lit + 1 - length l.parts.trail.truth.items

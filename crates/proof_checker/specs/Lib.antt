@@ -1,0 +1,5 @@
+pub mod Base
+pub mod Checking
+pub mod Kept
+pub mod Parts
+pub mod Scan

@@ -1,0 +1,4 @@
+pub mod Distinct
+pub mod Stored
+pub mod Trails
+pub mod Growing

@@ -1,0 +1,12 @@
+use Rattle.std.proofs.Common.{ℕ, ◌≡◌, ◌≢◌, ◌<◌, Bool, true, get_or}
+use Rattle.std.specs.List.{Contains}
+use Rattle.kv_clause.specs.Literals.{complement_of}
+use Rattle.sat_engine.specs.Trail.{IsSet}
+use Rattle.sat_engine.proofs.look.look_at.Given as goal
+
+abbrev pub invariant-loop-m : goal.invariant-loop-m
+invariant-loop-m l = record {
+  others : (k : ℕ) → k < l.m-index → get_or l.clause k 0 ≢ l.other → IsSet l.truth (complement_of (get_or l.clause k 0));
+  seen : l.found ≡ true → Contains l.clause l.other;
+  none : (k : ℕ) → k < l.m-index → get_or l.clause k 0 ≡ l.other → l.found ≡ true;
+}

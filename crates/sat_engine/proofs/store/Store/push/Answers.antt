@@ -1,0 +1,17 @@
+use Rattle.std.proofs.Common.{◌≡◌, ◌++◌, sym, arith, rules, ◌∙◌, ap}
+use Rattle.std.proofs.lemmas.Result.{err_from_is_err_and}
+use Rattle.sat_engine.specs.Store.{clauses_of, HeadsFit}
+use Rattle.sat_engine.proofs.Stored.{clauses_of-append, clauses_of-push}
+use Rattle.sat_engine.proofs.store.Store.push.Goals as goal
+
+pub returns-in_err-push-clause-err : goal.returns-in_err-push-clause-err
+returns-in_err-push-clause-err c =
+    let p = err_from_is_err_and c.from_residual-in_err-push.result c.from_residual-in_err-push.ensures.1 in
+    rw (p.1)
+    (rw (c.in_err-push.ensures.items, c.in_ok-extend_from_slice.ensures.items)
+    (clauses_of-append c.self.inside.lits.items c.args.clause.now c.self.inside.heads.items c.self.invariant ∙ c.self.view_is))
+
+pub returns-clause-ok : goal.returns-clause-ok
+returns-clause-ok c =
+    rw (c.in_ok-push.ensures.items, c.in_ok-extend_from_slice.ensures.items, ← c.self.view_is)
+    (clauses_of-push c.self.inside.lits.items c.args.clause.now c.self.inside.heads.items c.len-start.result c.len-end.result (search rules) (omega (arith, c.in_ok-extend_from_slice.ensures.len, c.len-end.ensures, c.self.inside.lits.ok.0)) c.self.invariant)

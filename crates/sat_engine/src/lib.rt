@@ -1,0 +1,23 @@
+//! What a search for assignments and a check of its log share: clauses in one array, the trail of literals set true,
+//! and unit propagation by two watched literals of each clause.
+//!
+//! No proof rests on the watches. What propagation sets true is true by a clause that was looked at, and so is a clause
+//! that it reports false; whoever has to know that nothing is left to propagate looks at each clause.
+#![tactic(auto)]
+
+mod literal;
+mod look;
+mod propagation;
+mod store;
+mod trail;
+mod watch;
+
+pub use literal::complement;
+pub use look::{Seen, look_at};
+pub use propagation::{imply, propagate};
+pub use store::Store;
+pub use trail::{Reason, Step, Trail};
+pub use watch::Watches;
+
+#[cfg(test)]
+mod tests;

@@ -1,0 +1,34 @@
+ghost use Rattle.std.specs.Prelude.{◌≡◌, ℕ, ◌+◌, ◌*◌, ◌/◌, ◌%◌, ◌<◌, ◌≤◌, Bool, true, false, length};
+ghost use Rattle.sat_engine.specs.Look.{InRange, LookSays};
+
+use crate::literal::complement;
+use crate::trail::Reason;
+
+/// What a clause says beside one of its literals.
+#[derive(Clone, Copy, Debug)]
+pub enum Seen {
+    /// a further literal that isn't false
+    Open(u32),
+    /// all others are false
+    Unit,
+    /// all are false
+    False,
+}
+
+/// Whether a literal of the clause other than `other` is not false.
+pub fn look_at(clause: &[u32], truth: &[bool], other: u32) -> Seen
+    requires range { InRange clause.now (length truth.now) }
+    requires even { length truth.now % 2 ≡ 0 }
+    ensures { LookSays clause.now truth.now other result }
+{
+    let mut found = false;
+    for m in clause {
+        let m = *m;
+        if m == other {
+            found = true;
+        } else if !truth[complement(m) as usize] {
+            return Seen::Open(m);
+        }
+    }
+    if found { Seen::Unit } else { Seen::False }
+}

@@ -1,0 +1,116 @@
+ghost use Rattle.std.specs.Prelude.{◌≡◌, ℕ, ◌+◌, ◌*◌, ◌/◌, ◌%◌, ◌<◌, ◌≤◌, Bool, true, false, length, IfOk, IfSome};
+ghost use Rattle.std.specs.List.{Contains};
+ghost use Rattle.kv_clause.specs.Literals.{complement_of};
+ghost use Rattle.kv_clause.specs.Propagation.{clause_at};
+ghost use Rattle.sat_engine.specs.Look.{AreInRange, AreFalse, AreFalseBut};
+ghost use Rattle.sat_engine.specs.Grow.{Grows};
+
+use crate::literal::complement;
+use crate::look::{Seen, look_at};
+use crate::store::Store;
+use crate::trail::{Reason, Trail};
+use crate::watch::{Watch, Watches};
+use kv_base::NoMemory;
+use std::alloc::Global;
+
+fn is_true(truth: &[bool], lit: u32) -> bool {
+    match truth.get(lit as usize) {
+        Some(b) => *b,
+        None => false,
+    }
+}
+
+/// Sets a literal true whose clause is false otherwise. True where that fails.
+pub fn imply(store: &Store, trail: &mut Trail, clause: u32, lit: u32) -> Result<bool, NoMemory>
+    requires clause { clause < length store.now }
+    requires literal { Contains (clause_at store.now clause) lit }
+    requires others { AreFalseBut (clause_at store.now clause) trail.old.truth.items lit }
+    requires range { lit < length trail.old.truth.items }
+    ensures grows { Grows store.now trail.old.steps.items trail.new.steps.items }
+    ensures size { length trail.new.truth.items ≡ length trail.old.truth.items }
+    ensures conflict { result ≡ Ok true → AreFalse (clause_at store.now clause) trail.new.truth.items }
+{
+    if trail.truth[complement(lit) as usize] {
+        return Ok(true);
+    }
+    if trail.truth[lit as usize] {
+        return Ok(false);
+    }
+    trail.push(lit, Reason::Clause(clause))?;
+    Ok(false)
+}
+
+/// Propagates the false literal `lit` through the clauses that watch it.
+fn visit(
+    store: &Store,
+    trail: &mut Trail,
+    watches: &mut Watches,
+    list: &mut Vec<Watch>,
+    lit: u32,
+) -> Result<Option<u32>, NoMemory>
+    requires range { AreInRange store.now (length trail.old.truth.items) }
+    ensures grows { Grows store.now trail.old.steps.items trail.new.steps.items }
+    ensures size { length trail.new.truth.items ≡ length trail.old.truth.items }
+    ensures conflict { IfOk result (λ r. IfSome r (λ i. (i < length store.now) × AreFalse (clause_at store.now i) trail.new.truth.items)) }
+{
+    let mut i = 0;
+    while i < list.len() {
+        let watch = list[i];
+        if is_true(&trail.truth, watch.blocker) || watch.clause as usize >= store.len() {
+            i += 1;
+            continue;
+        }
+        let other = watches.other(watch.clause, lit);
+        if is_true(&trail.truth, other) {
+            list[i] = Watch {
+                clause: watch.clause,
+                blocker: other,
+            };
+            i += 1;
+            continue;
+        }
+        match look_at(store.get(watch.clause as usize), &trail.truth, other) {
+            Seen::Open(m) => {
+                watches.rewatch(watch.clause, other, m)?;
+                let _moved = list.swap_remove(i);
+            }
+            Seen::False => return Ok(Some(watch.clause)),
+            Seen::Unit => {
+                if imply(store, trail, watch.clause, other)? {
+                    return Ok(Some(watch.clause));
+                }
+                i += 1;
+            }
+        }
+    }
+    Ok(None)
+}
+
+/// Propagates the literals of the trail from `from` on, and gives a false clause where one was found.
+pub fn propagate(
+    alloc: Global,
+    store: &Store,
+    trail: &mut Trail,
+    watches: &mut Watches,
+    from: usize,
+) -> Result<Option<u32>, NoMemory>
+    requires range { AreInRange store.now (length trail.old.truth.items) }
+    ensures grows { Grows store.now trail.old.steps.items trail.new.steps.items }
+    ensures size { length trail.new.truth.items ≡ length trail.old.truth.items }
+    ensures conflict { IfOk result (λ r. IfSome r (λ i. (i < length store.now) × AreFalse (clause_at store.now i) trail.new.truth.items)) }
+{
+    let most = trail.place.len();
+    for head in from..most {
+        if head >= trail.steps.len() {
+            break;
+        }
+        let lit = complement(trail.steps[head].lit);
+        let mut list = watches.take(alloc, lit);
+        let found = visit(store, trail, watches, &mut list, lit)?;
+        watches.put_back(lit, list);
+        if found.is_some() {
+            return Ok(found);
+        }
+    }
+    Ok(None)
+}

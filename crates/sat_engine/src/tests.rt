@@ -1,0 +1,43 @@
+use crate::{Reason, Seen, Store, Trail, Watches, complement, look_at};
+use std::process::Abort;
+use std::test::Fail;
+
+#[test]
+fn clauses_are_kept(rt: HostRuntime) -> Result<(), Fail> {
+    let mut store = Store::new(rt.alloc());
+    store.push(&[0, 3])?;
+    store.push(&[5])?;
+    assert!(rt; store.len() == 2);
+    assert!(rt; store.get(0) == [0u32, 3].as_slice());
+    Ok(())
+}
+
+#[test]
+fn a_literal_is_set_and_unset(rt: HostRuntime) -> Result<(), Fail> {
+    let mut trail = Trail::new(rt.alloc());
+    trail.widen()?;
+    assert!(rt; trail.truth.len() == 2);
+    assert!(rt; !trail.truth[0] && !trail.truth[1]);
+    trail.push(1, Reason::Assumed)?;
+    assert!(rt; trail.truth.len() == 2 && trail.truth[1]);
+    assert!(rt; matches!(look_at(&[0, 1], &[false, true], 1), Seen::Unit));
+    trail.cut(0);
+    assert!(rt; trail.steps.is_empty());
+    Ok(())
+}
+
+#[test]
+fn a_watch_has_another_literal(rt: HostRuntime) -> Result<(), Fail> {
+    let alloc = rt.alloc();
+    let mut watches = Watches::new(alloc);
+    watches.widen(alloc)?;
+    watches.widen(alloc)?;
+    watches.add(0, complement(1), 3)?;
+    watches.skip()?;
+    assert!(rt; watches.other(0, 3) == 0);
+    watches.rewatch(0, 3, 1)?;
+    let list = watches.take(alloc, 1);
+    assert!(rt; list.len() == 1);
+    watches.put_back(1, list);
+    Ok(())
+}

@@ -1,0 +1,3 @@
+mod Equal
+pub mod Tables
+pub mod Values

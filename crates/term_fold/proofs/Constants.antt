@@ -1,0 +1,139 @@
+-- Constants of an integer type.
+use Rattle.std.proofs.Common.{arith, ◌≡◌, ℕ, ◌^◌, ◌<◌, ◌≤◌, Bool, true, false, ◌&&◌, ℤ, pos, negsuc, ◌+ℤ◌, ◌≤ℤ◌, ◌<ℤ◌, nat_lt, to_z, of_z, FitsSigned, refl, sym, ap, subst, ◌∙◌, if◌then◌else◌}
+use Rattle.std.proofs.lemmas.Int.{ints, to_z-of_z}
+use Rattle.std.proofs.lemmas.Grind.{common_steps}
+use Rattle.std.proofs.Math.Nat.{mod-eq_of_lt}
+use lib.Signed.{lt_z, le_z}
+use Rattle.std.specs.Prelude.{unsigned_abs, int_le, int_lt, IsTrue, ◌↔◌, Some}
+use Rattle.std.specs.Ordering.{int_eq}
+use Rattle.kv_num.specs.declared.types.IntType.{IntType}
+use Rattle.kv_num.specs.IntType.{width_of, below_of, size_of, InRange, wrap_of}
+use Rattle.kv_num.specs.Quotient.{quotient_of, remainder_of}
+use Rattle.kv_num.specs.Shift.{left_of, right_of}
+use Rattle.kv_shape.specs.Shape.{bits_at, below_at}
+use Rattle.kv_num.proofs.Range.{width_most}
+use Rattle.kv_shape.proofs.Shapes.{wrap_at-in_shape}
+use Rattle.term_core.specs.declared.term.Shape.{Shape}
+use Rattle.term_core.specs.declared.term.BinaryOp.{BinaryOp}
+use Rattle.term_core.specs.declared.term.BinaryOp.TheVariants.{ShiftLeft, ShiftRight}
+use Rattle.term_core.specs.Shape.{HasShape, has_shape, shape_of, wrap_to}
+use Rattle.term_core.specs.Term.{truth, fits_value, binary_value, result_shape, quotient_by, remainder_by, OperandsFit}
+use mir.Val.{bool_byte}
+use Rattle.std.specs.Int.{w128}
+use Rattle.term_core.proofs.Values.{range-binary, range-truth}
+use Rattle.term_fold.specs.declared.operands.Operands.{Operands}
+use Rattle.term_fold.specs.declared.operands.Pick.TheVariants.{Number}
+use Rattle.term_fold.specs.Picks.{IsPickOf, IsFitsPick}
+use Rattle.term_fold.proofs.Simplifications.{constant_is}
+
+pub in_range : (t : IntType) (s : Shape) (n : ℤ) → shape_of t ≡ s → HasShape s n → InRange t n
+in_range t s n e h =
+    let P : Shape → Type 0 = λ x. HasShape x n in
+    let k : HasShape (shape_of t) n = subst P (sym e) h in
+    record { least = k.least; most = k.most }
+
+pub has_its_shape : (t : IntType) (n : ℤ) → InRange t n → HasShape (shape_of t) n
+has_its_shape t n h = record { least = h.least; most = h.most }
+
+as_wrapped : (t : IntType) (n : ℤ) → InRange t n → n ≡ wrap_to (shape_of t) n
+as_wrapped t n h = sym (wrap_at-in_shape (shape_of t).width (shape_of t).signed n (has_its_shape t n h))
+
+chosen_last : (b : Bool) (m n : ℤ) → b ≡ false → (if b then m else n) ≡ n
+chosen_last true m n e = absurd cc
+chosen_last false m n e = refl
+
+chosen_first : (b : Bool) (m n : ℤ) → b ≡ true → (if b then m else n) ≡ m
+chosen_first true m n e = refl
+chosen_first false m n e = absurd cc
+
+apart : (a b : ℤ) → (a ≡ b → ⊥) → int_eq a b ≡ false
+apart a b h = grind (arith, ints)
+
+-- ---- remainders
+
+pub rem_constant : (t : IntType) (a b n : ℤ) → n ≡ remainder_of a b → (b ≡ pos 0 → ⊥) → InRange t n → n ≡ wrap_to (shape_of t) (remainder_by a b)
+rem_constant t a b n e h is = as_wrapped t n is ∙ ap (wrap_to (shape_of t)) (e ∙ sym (chosen_last (int_eq b (pos 0)) (pos 0) (remainder_of a b) (apart b (pos 0) h)))
+
+-- ---- shifts
+
+below_half : (d b s : ℕ) → (pos d +ℤ pos b) <ℤ pos s → d < s
+below_half d b s h = omega (arith, ints)
+
+bits_distance : (r : Shape) (d : ℕ) → HasShape r (pos d) → bits_at r.width (pos d) ≡ d
+bits_distance r d h = mod-eq_of_lt (below_half d (below_at r.width r.signed) (2 ^ r.width) h.most)
+
+less_test : (d w : ℕ) → d < w → nat_lt d w ≡ true
+less_test d w h = grind (arith, common_steps)
+
+pub shl_constant : (t : IntType) (r : Shape) (a n : ℤ) (d : ℕ) → n ≡ wrap_of t (left_of a d) → d < width_of t → HasShape r (pos d) → n ≡ binary_value (shape_of t) r ShiftLeft a (pos d)
+shl_constant t r a n d e h is = e ∙ ap (wrap_to (shape_of t)) (sym
+    (ap (λ x. if nat_lt x (width_of t) then left_of a x else pos 0) (bits_distance r d is) ∙ chosen_first (nat_lt d (width_of t)) (left_of a d) (pos 0) (less_test d (width_of t) h)))
+
+pub shr_constant : (t : IntType) (r : Shape) (a n : ℤ) (d : ℕ) → n ≡ right_of a d → InRange t n → d < width_of t → HasShape r (pos d) → n ≡ binary_value (shape_of t) r ShiftRight a (pos d)
+shr_constant t r a n d e range h is = as_wrapped t n range ∙ ap (wrap_to (shape_of t)) (e ∙ sym
+    (ap (λ x. if nat_lt x (width_of t) then right_of a x else pos 0) (bits_distance r d is) ∙ chosen_first (nat_lt d (width_of t)) (right_of a d) (pos 0) (less_test d (width_of t) h)))
+
+-- the distance that a number is, as the code tests it
+distance_is : (w : ℕ) (b : ℤ) → w ≤ 64 → FitsSigned w128 b → lt_z (to_z w128 (of_z w128 b)) (pos 0) ≡ false → le_z (to_z w128 w) (to_z w128 (of_z w128 b)) ≡ false → (d : ℕ) × (b ≡ pos d) × (d < w)
+distance_is w (pos d) h f p q = (d, refl, omega (arith, ints))
+distance_is w (negsuc d) h f p q = absurd (omega (arith, ints))
+
+width_small : (t : IntType) (w : ℕ) → w ≡ width_of t → w ≤ 64
+width_small t w e = omega (arith, width_most t, e)
+
+pub shl_from : (t : IntType) (r : Shape) (a n b : ℤ) (w : ℕ) → FitsSigned w128 a → FitsSigned w128 b → w ≡ width_of t → lt_z (to_z w128 (of_z w128 b)) (pos 0) ≡ false → le_z (to_z w128 w) (to_z w128 (of_z w128 b)) ≡ false → HasShape r b
+    → n ≡ wrap_of t (left_of (to_z w128 (of_z w128 a)) (unsigned_abs (to_z w128 (of_z w128 b)))) → n ≡ binary_value (shape_of t) r ShiftLeft a b
+shl_from t r a n b w fa fb ew low high has e =
+    let d = distance_is w b (width_small t w ew) fb low high in
+    let P : ℤ → Type 0 = λ x. HasShape r x in
+    let plain : n ≡ wrap_of t (left_of a d.0) = e ∙ (λ i. wrap_of t (left_of (to_z-of_z w128 a fa i) (unsigned_abs ((to_z-of_z w128 b fb ∙ d.1) i)))) in
+    shl_constant t r a n d.0 plain (omega (arith, ew, d.2)) (subst P d.1 has) ∙ ap (binary_value (shape_of t) r ShiftLeft a) (sym d.1)
+
+pub shr_from : (t : IntType) (r : Shape) (a n b : ℤ) (w : ℕ) → FitsSigned w128 a → FitsSigned w128 b → w ≡ width_of t → lt_z (to_z w128 (of_z w128 b)) (pos 0) ≡ false → le_z (to_z w128 w) (to_z w128 (of_z w128 b)) ≡ false → HasShape r b
+    → InRange t n → n ≡ right_of (to_z w128 (of_z w128 a)) (unsigned_abs (to_z w128 (of_z w128 b))) → n ≡ binary_value (shape_of t) r ShiftRight a b
+shr_from t r a n b w fa fb ew low high has range e =
+    let d = distance_is w b (width_small t w ew) fb low high in
+    let P : ℤ → Type 0 = λ x. HasShape r x in
+    let plain : n ≡ right_of a d.0 = e ∙ (λ i. right_of (to_z-of_z w128 a fa i) (unsigned_abs ((to_z-of_z w128 b fb ∙ d.1) i))) in
+    shr_constant t r a n d.0 plain range (omega (arith, ew, d.2)) (subst P d.1 has) ∙ ap (binary_value (shape_of t) r ShiftRight a) (sym d.1)
+
+-- ---- tests
+
+tested : (x : ℤ) (k : ℕ) (f : Bool) → (IsTrue f → (pos 0 ≤ℤ x) × (x <ℤ pos k)) → (pos 0 ≤ℤ x → x <ℤ pos k → IsTrue f) → f ≡ (int_le (pos 0) x && int_lt x (pos k))
+tested x k true p q = let h = p refl in let low = h.0 in let high = h.1 in grind (arith, ints)
+tested (pos m) k false p q = let g = q in grind (arith, ints)
+tested (negsuc m) k false p q = grind (arith, ints)
+
+pub fits_constant : (t : IntType) (z : ℤ) (f : Bool) → IsTrue f ↔ InRange t z → f ≡ has_shape (shape_of t) z
+fits_constant t z f h = tested (z +ℤ pos (below_of t)) (size_of t) f (λ x. let r = h.0 x in (r.least, r.most)) (λ low high. h.1 (record { least = low; most = high }))
+
+pub fits_quotient : (t : IntType) (a b : ℤ) (f : Bool) → IsTrue f ↔ InRange t (quotient_of a b) → (b ≡ pos 0 → ⊥) → f ≡ has_shape (shape_of t) (quotient_by a b)
+fits_quotient t a b f h nonzero = fits_constant t (quotient_of a b) f h ∙ ap (has_shape (shape_of t)) (sym (chosen_last (int_eq b (pos 0)) (pos 0) (quotient_of a b) (apart b (pos 0) nonzero)))
+
+-- ---- an operation on two constants
+
+pub fit_same : (op : BinaryOp) (s r : Shape) → (op ≡ ShiftLeft → ⊥) → (op ≡ ShiftRight → ⊥) → OperandsFit op s r → r ≡ s
+fit_same ShiftLeft s r p q h = absurd (p refl)
+fit_same ShiftRight s r p q h = absurd (q refl)
+fit_same _ s r p q h = h
+
+pub constant_picked : (o : Operands) (op : BinaryOp) (t : IntType) (a b n : ℤ) → o.left ≡ Some a → o.right ≡ Some b → shape_of t ≡ o.shape → n ≡ binary_value (shape_of t) o.other op a b → IsPickOf op o (Number n)
+constant_picked o op t a b n el er et e =
+    let same : n ≡ binary_value o.shape o.other op a b = e ∙ ap (λ (s : Shape). binary_value s o.other op a b) et in
+    let P : ℤ → Type 0 = λ x. HasShape (result_shape op o.shape) x in
+    record {
+      has = subst P (sym same) (range-binary o.shape o.other op a b);
+      value = λ x y k. same ∙ sym (λ z. binary_value o.shape o.other op (constant_is o.left x a el k.left_is z) (constant_is o.right y b er k.right_is z));
+    }
+
+pub flag_number : (f : Bool) → to_z w128 (bool_byte f) ≡ truth f
+flag_number true = refl
+flag_number false = refl
+
+pub fits_picked_of : (o : Operands) (op : BinaryOp) (t : IntType) (a b : ℤ) (f : Bool) → o.left ≡ Some a → o.right ≡ Some b → shape_of t ≡ o.shape → f ≡ fits_value (shape_of t) o.other op a b → IsFitsPick op o (Number (truth f))
+fits_picked_of o op t a b f el er et e =
+    let same : f ≡ fits_value o.shape o.other op a b = e ∙ ap (λ (s : Shape). fits_value s o.other op a b) et in
+    record {
+      has = range-truth f;
+      value = λ x y k. ap truth (same ∙ sym (λ z. fits_value o.shape o.other op (constant_is o.left x a el k.left_is z) (constant_is o.right y b er k.right_is z)));
+    }

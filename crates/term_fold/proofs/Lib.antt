@@ -1,0 +1,4 @@
+mod Constants
+mod Known
+mod Renamed
+mod Simplifications
