@@ -1,0 +1,46 @@
+-- Sums and choices of single bits.
+use Rattle.std.proofs.Common.{ℕ, ◌≡◌, ◌+◌, ◌*◌, Bool, true, false, not, ◌&&◌, ◌||◌, if◌then◌else◌, refl, sym, ap, ◌∙◌}
+use Rattle.kv_num.specs.Bits.{differ}
+use Rattle.kv_clause.specs.Literals.{complement_of, is_true}
+use Rattle.kv_clause.proofs.Truths.{is_true-complement}
+use Rattle.word_gates.specs.Words.{bit}
+
+not_neither : (a b : Bool) → not (not a && not b) ≡ (a || b)
+not_neither true b = refl
+not_neither false true = refl
+not_neither false false = refl
+
+pub or_value : (A : ℕ → Bool) (a b na nb neither out : ℕ) → na ≡ complement_of a → nb ≡ complement_of b → is_true A neither ≡ (is_true A na && is_true A nb) → out ≡ complement_of neither → is_true A out ≡ (is_true A a || is_true A b)
+or_value A a b na nb neither out p q h r =
+    let e1 : is_true A na ≡ not (is_true A a) = ap (is_true A) p ∙ is_true-complement A a in
+    let e2 : is_true A nb ≡ not (is_true A b) = ap (is_true A) q ∙ is_true-complement A b in
+    let e3 : is_true A neither ≡ (not (is_true A a) && not (is_true A b)) = h ∙ (ap (λ z. z && is_true A nb) e1 ∙ ap (λ z. not (is_true A a) && z) e2) in
+    ap (is_true A) r ∙ (is_true-complement A neither ∙ (ap not e3 ∙ not_neither (is_true A a) (is_true A b)))
+
+sum_of_bits : (a b c : Bool) → bit (differ (differ a b) c) + 2 * bit ((a && b) || (differ a b && c)) ≡ bit a + bit b + bit c
+sum_of_bits true true true = refl
+sum_of_bits true true false = refl
+sum_of_bits true false true = refl
+sum_of_bits true false false = refl
+sum_of_bits false true true = refl
+sum_of_bits false true false = refl
+sum_of_bits false false true = refl
+sum_of_bits false false false = refl
+
+pub sum_bits : (a b c odd digit both more carry : Bool) → odd ≡ differ a b → digit ≡ differ odd c → both ≡ (a && b) → more ≡ (odd && c) → carry ≡ (both || more) → bit digit + 2 * bit carry ≡ bit a + bit b + bit c
+sum_bits a b c odd digit both more carry p q r s t =
+    let e : digit ≡ differ (differ a b) c = q ∙ ap (λ z. differ z c) p in
+    let f : carry ≡ ((a && b) || (differ a b && c)) = t ∙ (ap (λ z. z || more) r ∙ ap (λ z. (a && b) || z) (s ∙ ap (λ z. z && c) p)) in
+    ap (λ z. bit z + 2 * bit carry) e ∙ (ap (λ z. bit (differ (differ a b) c) + 2 * bit z) f ∙ sum_of_bits a b c)
+
+chosen_bit : (t y n : Bool) → differ (t && differ y n) n ≡ (if t then y else n)
+chosen_bit true true true = refl
+chosen_bit true true false = refl
+chosen_bit true false true = refl
+chosen_bit true false false = refl
+chosen_bit false y n = refl
+
+pub chosen : (t y n odd turn out : Bool) → odd ≡ differ y n → turn ≡ (t && odd) → out ≡ differ turn n → out ≡ (if t then y else n)
+chosen t y n odd turn out p q r = r ∙ (ap (λ z. differ z n) (q ∙ ap (λ z. t && z) p) ∙ chosen_bit t y n)
+
+pub ruleset truths = (is_true-complement)

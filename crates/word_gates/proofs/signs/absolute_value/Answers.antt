@@ -1,0 +1,7 @@
+use Rattle.std.proofs.Common.{◌≡◌}
+use Rattle.kv_clause.specs.Literals.{is_true}
+use Rattle.word_gates.proofs.Negations.{magnitude_value}
+use Rattle.word_gates.proofs.signs.absolute_value.Goals as goal
+
+pub returns-clause-value : goal.returns-clause-value
+returns-clause-value c = λ A h. magnitude_value A c.args.signed c.args.word.now c.in_ok-absolute.absolute (is_true A c.in_ok-negative.negative) c.requires.some (c.in_ok-negative.ensures.value A (c.in_ok-absolute.ensures.grows.kept A h)) (c.in_ok-absolute.ensures.value A h)

@@ -1,0 +1,24 @@
+ghost use Rattle.std.specs.Prelude.{◌≡◌, ◌==◌, not, ℕ, Bool, IfOk};
+ghost use Rattle.kv_clause.specs.Literals.{is_true};
+ghost use Rattle.gate_core.specs.Table.{Agrees, IsLitOf, Grows};
+ghost use Rattle.word_gates.specs.Words.{number, IsWordOf};
+
+use crate::bits::or;
+use gate_core::Gates;
+use kv_base::NoMemory;
+use kv_clause::Lit;
+
+/// Whether a literal of the word is true.
+pub(crate) fn any(gates: &mut Gates, word: &[Lit]) -> Result<Lit, NoMemory>
+    requires { IsWordOf gates.old word.now }
+    ensures within { IfOk result (IsLitOf gates.new) }
+    ensures value { IfOk result (λ l. (A : ℕ → Bool) → Agrees A gates.new → is_true A l ≡ not (number A word.now == 0)) }
+    ensures grows { Grows gates.old gates.new }
+{
+    let mut set = gates.constant(false)?;
+    for x in word {
+        let more = or(gates, set, *x)?;
+        set = more;
+    }
+    Ok(set)
+}

@@ -1,0 +1,144 @@
+ghost use Rattle.std.specs.Prelude.{◌≡◌, ◌<◌, ◌+◌, ◌-◌, ◌*◌, ◌^◌, ◌==◌, ◌&&◌, ◌||◌, ◌↔◌, IsTrue, not, ℕ, Bool, true, false, pos, ◌-ℤ◌, length, if◌then◌else◌, IfOk};
+ghost use Rattle.kv_shape.specs.Shape.{InShape, wrap_at};
+ghost use Rattle.kv_clause.specs.Literals.{is_true};
+ghost use Rattle.gate_core.specs.Table.{Agrees, IsLitOf, Grows};
+ghost use Rattle.word_gates.specs.Words.{bit, number, signed_number, word_value, IsWordOf};
+
+use crate::bits::or;
+use crate::parts::any;
+use crate::{Word, WordNum};
+use gate_core::Gates;
+use kv_base::{NoMemory, Sequence};
+use kv_clause::Lit;
+use std::alloc::Global;
+
+/// A number by its sign and its absolute value.
+#[derive(Debug, Drop)]
+pub(crate) struct Magnitude {
+    pub negative: Lit,
+    pub word: Word,
+}
+
+/// The word of the number below 2 to its width that makes nothing with this one, modulo that, where the test is true,
+/// and else this one.
+pub(crate) fn negated_where(
+    alloc: Global,
+    gates: &mut Gates,
+    word: &[Lit],
+    test: Lit,
+) -> Result<Word, NoMemory>
+    requires word { IsWordOf gates.old word.now }
+    requires test { IsLitOf gates.old test }
+    ensures len { IfOk result (λ w. length w ≡ length word.now) }
+    ensures within { IfOk result (λ w. IsWordOf gates.new w) }
+    ensures value { IfOk result (λ w. (A : ℕ → Bool) → Agrees A gates.new → (if is_true A test then number A w + number A word.now else number A w) ≡ (if is_true A test then 2 ^ length word.now * bit (not (number A word.now == 0)) else number A word.now)) }
+    ensures grows { Grows gates.old gates.new }
+{
+    let mut negated = Sequence::new(alloc);
+    let mut set = gates.constant(false)?;
+    for x in word {
+        let turn = gates.and(test, set)?;
+        let digit = gates.xor(turn, *x)?;
+        let more = or(gates, set, *x)?;
+        negated.push(digit)?;
+        set = more;
+    }
+    Ok(negated)
+}
+
+/// A literal that is true where the number of a word is negative.
+fn sign(gates: &mut Gates, word: &[Lit], signed: bool) -> Result<Lit, NoMemory>
+    requires word { IsWordOf gates.old word.now }
+    requires some { 0 < length word.now }
+    ensures within { IfOk result (IsLitOf gates.new) }
+    ensures value { IfOk result (λ l. (A : ℕ → Bool) → Agrees A gates.new → word_value A signed word.now ≡ pos (number A word.now) -ℤ pos (2 ^ length word.now * bit (is_true A l))) }
+    ensures plain { IfOk result (λ l. (A : ℕ → Bool) → Agrees A gates.new → signed ≡ false → is_true A l ≡ false) }
+    ensures grows { Grows gates.old gates.new }
+{
+    if signed {
+        return Ok(word[word.len() - 1]);
+    }
+    let never = gates.constant(false)?;
+    Ok(never)
+}
+
+/// The sign and the absolute value of a word's number.
+pub(crate) fn absolute_value(
+    alloc: Global,
+    gates: &mut Gates,
+    word: &[Lit],
+    signed: bool,
+) -> Result<Magnitude, NoMemory>
+    requires word { IsWordOf gates.old word.now }
+    requires some { 0 < length word.now }
+    ensures len { IfOk result (λ m. length m.word ≡ length word.now) }
+    ensures negative { IfOk result (λ m. IsLitOf gates.new m.negative) }
+    ensures word { IfOk result (λ m. IsWordOf gates.new m.word) }
+    ensures value { IfOk result (λ m. (A : ℕ → Bool) → Agrees A gates.new → word_value A signed word.now ≡ signed_number (is_true A m.negative) (number A m.word)) }
+    ensures plain { IfOk result (λ m. (A : ℕ → Bool) → Agrees A gates.new → signed ≡ false → is_true A m.negative ≡ false) }
+    ensures grows { Grows gates.old gates.new }
+{
+    let negative = sign(gates, word, signed)?;
+    let absolute = negated_where(alloc, gates, word, negative)?;
+    Ok(Magnitude {
+        negative,
+        word: absolute,
+    })
+}
+
+/// The number whose absolute value has these lower and upper bits, negative where the test is true, as a number of the
+/// lower bits' width, and whether it fits.
+pub(crate) fn with_sign(
+    alloc: Global,
+    gates: &mut Gates,
+    negative: Lit,
+    low: &[Lit],
+    high: &[Lit],
+    signed: bool,
+) -> Result<WordNum, NoMemory>
+    requires test { IsLitOf gates.old negative }
+    requires low { IsWordOf gates.old low.now }
+    requires high { IsWordOf gates.old high.now }
+    requires some { 0 < length low.now }
+    ensures len { IfOk result (λ r. length r.value ≡ length low.now) }
+    ensures word { IfOk result (λ r. IsWordOf gates.new r.value) }
+    ensures within { IfOk result (λ r. IsLitOf gates.new r.fits) }
+    ensures value { IfOk result (λ r. (A : ℕ → Bool) → Agrees A gates.new → word_value A signed r.value ≡ wrap_at (length low.now) signed (signed_number (is_true A negative) (number A low.now + 2 ^ length low.now * number A high.now))) }
+    ensures fits { IfOk result (λ r. (A : ℕ → Bool) → Agrees A gates.new → (signed ≡ false → is_true A negative ≡ false) → IsTrue (is_true A r.fits) ↔ InShape (length low.now) signed (signed_number (is_true A negative) (number A low.now + 2 ^ length low.now * number A high.now))) }
+    ensures grows { Grows gates.old gates.new }
+{
+    let value = negated_where(alloc, gates, low, negative)?;
+    let more = any(gates, high)?;
+    let top = low.len() - 1;
+    let bits = value.as_slice();
+    let fits = is_in_range(gates, negative, low[top], bits[top], more, signed)?;
+    Ok(WordNum { value, fits })
+}
+
+/// Whether a number is in the range of its width, from its sign, the top bits of its absolute value and of its word,
+/// and whether its absolute value has more bits. With a sign the least number's absolute value is one past the
+/// greatest number.
+fn is_in_range(
+    gates: &mut Gates,
+    negative: Lit,
+    absolute_top: Lit,
+    word_top: Lit,
+    more: Lit,
+    signed: bool,
+) -> Result<Lit, NoMemory>
+    requires test { IsLitOf gates.old negative }
+    requires absolute { IsLitOf gates.old absolute_top }
+    requires word { IsLitOf gates.old word_top }
+    requires more { IsLitOf gates.old more }
+    ensures within { IfOk result (IsLitOf gates.new) }
+    ensures value { IfOk result (λ l. (A : ℕ → Bool) → Agrees A gates.new → is_true A l ≡ not (is_true A more || (signed && (is_true A absolute_top && not (is_true A negative && is_true A word_top))))) }
+    ensures grows { Grows gates.old gates.new }
+{
+    if signed {
+        let least = gates.and(negative, word_top)?;
+        let past = gates.and(absolute_top, least.complement())?;
+        let over = or(gates, more, past)?;
+        return Ok(over.complement());
+    }
+    Ok(more.complement())
+}
