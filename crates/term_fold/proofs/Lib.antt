@@ -1,4 +1,5 @@
 mod Constants
+mod Fitting
 mod Known
 mod Renamed
 mod Simplifications

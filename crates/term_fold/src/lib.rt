@@ -7,6 +7,8 @@ mod operands;
 mod picks;
 mod rules;
 mod simpler;
+#[cfg(test)]
+mod tests;
 
 pub use folding::fold;
 pub use kv_base::NoMemory;
