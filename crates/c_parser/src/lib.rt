@@ -1,0 +1,6 @@
+//! The parser of C texts.
+#![tactic(auto)]
+
+mod nesting;
+
+pub use nesting::{first_left_out, first_too_deep};
