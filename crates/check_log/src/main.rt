@@ -1,4 +1,4 @@
-//! Says what `check` says of a log: `check_log CNF LOG`. Both files have clauses in the DIMACS form, each ended by 0.
+//! Says what `check` says of each log: `check_log CNF LOG ..`. All files have clauses in the DIMACS form, each ended by 0.
 //! Lines that begin with `c`, `p` or `d` (comments, the head, and clauses that a search forgot) are passed over.
 #![tactic(auto)]
 
@@ -80,17 +80,28 @@ fn read(rt: &(impl Files + AllocGlobal), path: &str) -> io::Result<Option<Cnf>> 
     }))
 }
 
-fn main(rt: HostRuntime) -> io::Result<()> {
-    let mut words = env::args(&rt)?.skip(1);
-    let (Some(cnf), Some(log)) = (words.next(), words.next()) else {
-        return println!(rt; "check_log CNF LOG");
-    };
-    let (Some(cnf), Some(log)) = (read(&rt, cnf.as_str())?, read(&rt, log.as_str())?) else {
-        return println!(rt; "not in the DIMACS form");
-    };
-    match check(rt.alloc(), &cnf, &log.clauses)? {
+/// Says what a log shows over the clauses.
+fn say(rt: &(impl Print + AllocGlobal), cnf: &Cnf, log: &Cnf) -> io::Result<()> {
+    match check(rt.alloc(), cnf, &log.clauses)? {
         Checked::Refutes => println!(rt; "Refutes"),
         Checked::Learns(steps) => println!(rt; "Learns {steps}"),
         Checked::Bad { step } => println!(rt; "Bad {step}"),
     }
+}
+
+fn main(rt: HostRuntime) -> io::Result<()> {
+    let mut words = env::args(&rt)?.skip(1);
+    let Some(path) = words.next() else {
+        return println!(rt; "check_log CNF LOG ..");
+    };
+    let Some(cnf) = read(&rt, path.as_str())? else {
+        return println!(rt; "not in the DIMACS form");
+    };
+    for path in words {
+        match read(&rt, path.as_str())? {
+            Some(log) => say(&rt, &cnf, &log)?,
+            None => println!(rt; "not in the DIMACS form")?,
+        }
+    }
+    Ok(())
 }

@@ -1,16 +1,15 @@
-use Rattle.std.proofs.Common.{ℕ, zero, suc, ◌≡◌, ◌≢◌, ◌+◌, ◌-◌, ◌*◌, ◌/◌, ◌%◌, ◌<◌, ◌≤◌, ◌⊎◌, ◌++◌, inl, inr, List, [], ◌∷◌, map, length, get_or, take, Bool, true, false, refl, sym, ap, subst, ◌∙◌, arith}
+use Rattle.std.proofs.Common.{ℕ, zero, suc, ◌≡◌, ◌≢◌, ◌+◌, ◌/◌, ◌<◌, ◌≤◌, ◌++◌, inl, inr, List, [], ◌∷◌, map, length, get_or, take, Bool, true, false, refl, sym, ap, subst, ◌∙◌, arith}
 use Rattle.std.specs.List.{Contains}
-use Rattle.std.proofs.lemmas.Bool.{cases_eq, cases_lt, false≢true}
+use Rattle.std.proofs.lemmas.Bool.{cases_lt, false≢true}
 use Rattle.std.proofs.lemmas.List.{length-map, get_or-map, length_push, get_or_append_left, get_or_push, take-append-le, take_all, take-take}
-use Rattle.std.proofs.lemmas.List.Elements.{Contains-get_or}
 use Rattle.kv_clause.specs.Literals.{complement_of}
-use Rattle.kv_clause.specs.Propagation.{clause_at, Derived, given, unit, Conflict, HasComplements, Refuted, Follows}
+use Rattle.kv_clause.specs.Propagation.{clause_at, Derived, given, unit, Conflict, Refuted, Follows}
 use Rattle.kv_clause.proofs.Truths.{complement_twice, complement_variable}
 use Rattle.kv_clause.proofs.Propagation.{Refuted-both, Conflict-more, HasAll-append}
 use Rattle.sat_engine.specs.declared.trail.Reason.{Reason}
 use Rattle.sat_engine.specs.declared.trail.Reason.TheVariants.{Free, Assumed, Clause}
 use Rattle.sat_engine.specs.declared.trail.Step.{Step}
-use Rattle.sat_engine.specs.Trail.{none_step, IsSet, IsTrail, lit_at, reason_at, IsReason, AreReasons}
+use Rattle.sat_engine.specs.Trail.{none_step, IsSet, IsTrail, lit_at, reason_at, IsReason}
 use Rattle.sat_engine.specs.Look.{AreFalse, InRange, AreInRange}
 use Rattle.sat_engine.specs.Grow.{Grows, IsImplied}
 use Rattle.sat_engine.proofs.Trails.{lit_at-push, lit_at-last}

@@ -1,9 +1,8 @@
 -- What the answers of a check say of one another, and of the clauses.
 use Rattle.std.proofs.Common.{ℕ, zero, suc, ◌≡◌, ◌+◌, ◌-◌, ◌<◌, ◌≤◌, ◌++◌, inl, inr, List, [], ◌∷◌, length, get_or, take, Bool, true, false, refl, sym, ap, subst, ◌∙◌, append_assoc, below_more, arith}
-use Rattle.std.specs.List.{Contains}
 use Rattle.std.proofs.lemmas.Bool.{cases_lt, false≢true}
-use Rattle.std.proofs.lemmas.List.{get_or-take, take_more, get_or_default, get_or_append_left, get_or-append_right, length-append, length-take-le, length-take}
-use Rattle.kv_clause.specs.Literals.{complement_of, MeetsAll, clause_holds}
+use Rattle.std.proofs.lemmas.List.{get_or-take, take_more, get_or_default, get_or_append_left, get_or-append_right, length-append, length-take-le}
+use Rattle.kv_clause.specs.Literals.{MeetsAll, clause_holds}
 use Rattle.kv_clause.specs.Propagation.{clause_at, Conflict, Follows}
 use Rattle.kv_clause.proofs.Truths.{met_at, met-from_each}
 use Rattle.kv_clause.proofs.Propagation.{Conflict-more, Follows-sound}

@@ -1,14 +1,10 @@
-use Rattle.std.proofs.Common.{ℕ, ◌≡◌, ◌≢◌, ◌+◌, ◌-◌, ◌*◌, ◌/◌, ◌%◌, ◌<◌, ◌≤◌, ◌⊎◌, inl, inr, List, [], map, length, get_or, Bool, true, false, None, Some, Option, refl, sym, ap, subst, ◌∙◌, arith}
-use Rattle.std.specs.List.{Contains}
-use Rattle.std.proofs.lemmas.Bool.{cases_eq, cases_lt}
-use Rattle.std.proofs.lemmas.List.{length-map, get_or-map}
-use Rattle.std.proofs.lemmas.List.Elements.{Contains-get_or}
+use Rattle.std.proofs.Common.{ℕ, ◌≢◌, ◌<◌, inl, inr, List, length, Bool, None, sym, subst, ◌∙◌}
+use Rattle.std.proofs.lemmas.Bool.{cases_eq}
 use Rattle.kv_clause.specs.Literals.{complement_of}
-use Rattle.kv_clause.specs.Propagation.{clause_at, Derived, given, unit, Conflict, HasComplements, Refuted, Follows}
+use Rattle.kv_clause.specs.Propagation.{clause_at, Refuted}
 use Rattle.kv_clause.proofs.Propagation.{IsClosed, Refuted-closed}
-use Rattle.sat_engine.specs.declared.trail.Step.{Step}
-use Rattle.sat_engine.specs.Trail.{IsSet, IsTrail, lit_at}
-use Rattle.sat_engine.specs.Look.{InRange, AreFalse, AreFalseBut}
+use Rattle.sat_engine.specs.Trail.{IsSet}
+use Rattle.sat_engine.specs.Look.{AreFalse, AreFalseBut}
 use Rattle.sat_engine.proofs.Trails.{each_Contains}
 use Rattle.proof_checker.specs.Base.{AreSet}
 use Rattle.proof_checker.specs.Scan.{IsSettled, IsHeld, SoFar}

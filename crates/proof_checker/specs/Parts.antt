@@ -1,5 +1,5 @@
 -- What the checker's working parts keep between its calls.
-use Rattle.std.specs.Prelude.{ℕ, ◌≡◌, ◌<◌, List, [], length, true}
+use Rattle.std.specs.Prelude.{◌≡◌, ◌<◌, [], length, true}
 use Rattle.kv_clause.specs.Propagation.{Conflict}
 use Rattle.sat_engine.specs.Look.{AreInRange}
 use Rattle.proof_checker.specs.Base.{IsBase}

@@ -4,6 +4,7 @@ ghost use Rattle.proof_checker.specs.Parts.{IsReady};
 
 use crate::narrow::{complements, narrow};
 use crate::parts::{Parts, empty, fit, insert, refuted};
+use crate::tiers::Origin;
 use kv_base::NoMemory;
 use kv_clause::{Clause, Lits};
 use std::alloc::Global;
@@ -31,14 +32,14 @@ impl Model for Checker {
     ghost invariant = { λ c. c.is_refused ≡ false → IsReady c.parts };
 }
 
-fn add_to(alloc: Global, parts: &mut Parts, clause: &Clause) -> Result<(), NoMemory>
+fn add_to(alloc: Global, parts: &mut Parts, origin: Origin, clause: &Clause) -> Result<(), NoMemory>
     requires { IsReady parts.old }
     ensures ready { OnOk result (IsReady parts.new) }
     ensures store { OnOk result (parts.new.store ≡ parts.old.store ++ clause.now ∷ []) }
 {
     let lits = narrow(alloc, clause.as_slice())?;
     fit(alloc, parts, lits.as_slice())?;
-    insert(alloc, parts, lits.as_slice())
+    insert(alloc, parts, origin, lits.as_slice())
 }
 
 fn refuted_in(alloc: Global, parts: &mut Parts, asked: &[u32]) -> Result<bool, NoMemory>
@@ -86,7 +87,7 @@ impl Checker {
             return Err(NoMemory);
         }
         self.is_refused = true;
-        add_to(self.alloc, &mut self.parts, clause)?;
+        add_to(self.alloc, &mut self.parts, Origin::Added, clause)?;
         self.is_refused = false;
         Ok(())
     }
@@ -108,7 +109,7 @@ impl Checker {
             self.is_refused = false;
             return Ok(false);
         }
-        add_to(self.alloc, &mut self.parts, clause)?;
+        add_to(self.alloc, &mut self.parts, Origin::Learnt, clause)?;
         self.is_refused = false;
         Ok(true)
     }

@@ -11,6 +11,7 @@ mod narrow;
 mod parts;
 mod refute;
 mod scan;
+mod tiers;
 mod verdict;
 
 pub use checker::Checker;

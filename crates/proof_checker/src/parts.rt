@@ -8,17 +8,18 @@ ghost use Rattle.proof_checker.specs.Parts.{IsReady};
 
 use crate::refute::refute;
 use crate::scan::{Class, classify};
+use crate::tiers::{Origin, Tiers};
 use kv_base::NoMemory;
-use sat_engine::{Reason, Store, Trail, Watches, complement, propagate};
+use sat_engine::{Reason, Store, Trail, complement};
 use std::alloc::Global;
 
-/// What the checker works on: the clauses, the literals that follow from them alone, the watches, and whether the
+/// What the checker works on: the clauses, the literals that follow from them alone, the tiers, and whether the
 /// clauses are refuted already.
 #[derive(Drop)]
 pub struct Parts {
     pub store: Store,
     pub trail: Trail,
-    pub watches: Watches,
+    pub tiers: Tiers,
     pub is_refuted: bool,
 }
 
@@ -30,7 +31,7 @@ pub fn empty(alloc: Global) -> Parts
     Parts {
         store: Store::new(alloc),
         trail: Trail::new(alloc),
-        watches: Watches::new(alloc),
+        tiers: Tiers::new(alloc),
         is_refuted: false,
     }
 }
@@ -45,7 +46,7 @@ fn widen(alloc: Global, parts: &mut Parts, lit: u32) -> Result<(), NoMemory>
 {
     'rooms: while parts.trail.truth.len() <= lit as usize {
         parts.trail.widen()?;
-        parts.watches.widen(alloc)?;
+        parts.tiers.widen(alloc)?;
     }
     Ok(())
 }
@@ -98,13 +99,10 @@ fn settle(alloc: Global, parts: &mut Parts, clause: u32, lit: u32) -> Result<(),
 {
     let from = parts.trail.steps.len();
     parts.trail.push(lit, Reason::Clause(clause))?;
-    match propagate(
-        alloc,
-        &parts.store,
-        &mut parts.trail,
-        &mut parts.watches,
-        from,
-    )? {
+    match parts
+        .tiers
+        .propagate(alloc, &parts.store, &mut parts.trail, from)?
+    {
         None => Ok(()),
         Some(_) => {
             parts.is_refuted = true;
@@ -131,7 +129,12 @@ fn append(parts: &mut Parts, clause: &[u32]) -> Result<u32, NoMemory>
 }
 
 /// Adds a clause.
-pub fn insert(alloc: Global, parts: &mut Parts, clause: &[u32]) -> Result<(), NoMemory>
+pub fn insert(
+    alloc: Global,
+    parts: &mut Parts,
+    origin: Origin,
+    clause: &[u32],
+) -> Result<(), NoMemory>
     requires ready { IsReady parts.old }
     requires room { InRange clause.now (length parts.old.trail.truth.items) }
     ensures ready { OnOk result (IsReady parts.new) }
@@ -140,15 +143,11 @@ pub fn insert(alloc: Global, parts: &mut Parts, clause: &[u32]) -> Result<(), No
     let number = append(parts, clause)?;
     match classify(clause, &parts.trail.truth) {
         Class::Settled => match open_pair(clause, &parts.trail.truth) {
-            Some((one, two)) => parts.watches.add(number, one, two),
-            None => parts.watches.skip(),
+            Some((one, two)) => parts.tiers.add(alloc, origin, number, one, two),
+            None => Ok(()),
         },
-        Class::Unit(lit) => {
-            parts.watches.skip()?;
-            settle(alloc, parts, number, lit)
-        }
+        Class::Unit(lit) => settle(alloc, parts, number, lit),
         Class::False => {
-            parts.watches.skip()?;
             parts.is_refuted = true;
             Ok(())
         }
@@ -171,7 +170,7 @@ pub fn refuted(alloc: Global, parts: &mut Parts, asked: &[u32]) -> Result<bool, 
         alloc,
         &parts.store,
         &mut parts.trail,
-        &mut parts.watches,
+        &mut parts.tiers,
         asked,
     )
 }

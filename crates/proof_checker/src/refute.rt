@@ -4,8 +4,9 @@ ghost use Rattle.sat_engine.specs.Look.{InRange, AreInRange};
 ghost use Rattle.proof_checker.specs.Base.{IsBase, AssumeSays};
 
 use crate::scan::close;
+use crate::tiers::Tiers;
 use kv_base::NoMemory;
-use sat_engine::{Reason, Store, Trail, Watches, complement};
+use sat_engine::{Reason, Store, Trail, complement};
 use std::alloc::Global;
 
 // Sets the asked literals true: answers true where the complement of one of them is true by then.
@@ -33,7 +34,7 @@ pub fn refute(
     alloc: Global,
     store: &Store,
     trail: &mut Trail,
-    watches: &mut Watches,
+    tiers: &mut Tiers,
     asked: &[u32],
 ) -> Result<bool, NoMemory>
     requires range { AreInRange store.now (length trail.old.truth.items) }
@@ -50,7 +51,7 @@ pub fn refute(
         trail.cut(base);
         return Ok(true);
     }
-    let fails = close(alloc, store, trail, watches, base)?;
+    let fails = close(alloc, store, trail, tiers, base)?;
     trail.cut(base);
     Ok(fails)
 }

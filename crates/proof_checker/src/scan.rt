@@ -7,8 +7,9 @@ ghost use Rattle.sat_engine.specs.Look.{InRange, AreInRange, AreFalse, AreFalseB
 ghost use Rattle.sat_engine.specs.Grow.{Grows};
 ghost use Rattle.proof_checker.specs.Scan.{ClassSays, ScanSays, Closes};
 
+use crate::tiers::Tiers;
 use kv_base::NoMemory;
-use sat_engine::{Reason, Store, Trail, Watches, complement, propagate};
+use sat_engine::{Reason, Store, Trail, complement};
 use std::alloc::Global;
 
 /// What a clause is under the literals set true.
@@ -84,7 +85,7 @@ pub fn close(
     alloc: Global,
     store: &Store,
     trail: &mut Trail,
-    watches: &mut Watches,
+    tiers: &mut Tiers,
     from: usize,
 ) -> Result<bool, NoMemory>
     requires range { AreInRange store.now (length trail.old.truth.items) }
@@ -95,7 +96,7 @@ pub fn close(
 {
     let mut from = from;
     'rounds: loop {
-        match propagate(alloc, store, trail, watches, from)? {
+        match tiers.propagate(alloc, store, trail, from)? {
             Some(_) => return Ok(true),
             None => {}
         }

@@ -1,7 +1,7 @@
-use Rattle.std.proofs.Common.{ℕ, ◌≡◌, ◌≢◌, ◌+◌, ◌-◌, ◌*◌, ◌/◌, ◌<◌, ◌≤◌, ◌++◌, ◌⊎◌, inl, inr, List, [], ◌∷◌, Bool, true, false, length, get_or, set, take, drop, refl, sym, ap, subst, ◌∙◌, arith}
+use Rattle.std.proofs.Common.{ℕ, ◌≡◌, ◌≢◌, ◌+◌, ◌/◌, ◌<◌, ◌≤◌, ◌++◌, inl, inr, List, [], ◌∷◌, Bool, length, get_or, take, refl, sym, ap, subst, ◌∙◌, arith}
 use Rattle.std.specs.List.{Contains}
-use Rattle.std.proofs.lemmas.List.{length-set, length_push, get_or_push, get_or_append_left, take-append-le, take_all, get_or-take, length-take-le, take-take}
-use Rattle.std.proofs.lemmas.Bool.{cases_eq, cases_lt}
+use Rattle.std.proofs.lemmas.List.{length_push, get_or_push, get_or_append_left, take-append-le, take_all, get_or-take, take-take}
+use Rattle.std.proofs.lemmas.Bool.{cases_lt}
 use Rattle.kv_clause.specs.Propagation.{clause_at}
 use Rattle.kv_clause.specs.Literals.{complement_of}
 use Rattle.sat_engine.specs.declared.trail.Reason.{Reason}
@@ -10,7 +10,7 @@ use Rattle.sat_engine.specs.declared.trail.Step.{Step}
 use Rattle.sat_engine.specs.Trail.{none_step, lit_at, reason_at, IsSet, IsTrail, Before, IsReason, AreReasons}
 use Rattle.sat_engine.specs.Grow.{IsImplied, Grows}
 use Rattle.sat_engine.specs.Look.{AreFalseBut}
-use Rattle.sat_engine.proofs.Trails.{lit_at-push, lit_at-last, lit_at-take}
+use Rattle.sat_engine.proofs.Trails.{lit_at-push, lit_at-last}
 
 -- the places before i are the same in both trails, as far as i
 pub SameTo : List Step → List Step → ℕ → Type 0

@@ -1,15 +1,10 @@
-use Rattle.std.proofs.Common.{ℕ, zero, suc, ◌≡◌, ◌≢◌, ◌+◌, ◌-◌, ◌*◌, ◌/◌, ◌%◌, ◌<◌, ◌≤◌, ◌++◌, ◌⊎◌, inl, inr, map, List, [], ◌∷◌, Bool, true, false, length, get_or, set, take, drop, refl, sym, ap, subst, ◌∙◌, arith}
+use Rattle.std.proofs.Common.{ℕ, zero, suc, ◌≡◌, ◌≢◌, ◌+◌, ◌*◌, ◌/◌, ◌<◌, ◌≤◌, ◌++◌, inl, inr, map, List, [], ◌∷◌, Bool, false, length, get_or, set, take, refl, sym, ap, subst, ◌∙◌, arith}
 use Rattle.std.specs.List.{Contains}
 use Rattle.std.proofs.lemmas.List.{length-set, length_push, get_or_push, get_or_append_left, get_or-set_same, get_or-set_other, get_or-take, get_or_default, length-map, get_or-map, length-append}
-use Rattle.std.proofs.lemmas.List.Elements.{Contains-get_or}
-use Rattle.std.proofs.lemmas.Bool.{cases_eq, cases_Bool, false≢true}
-use Rattle.kv_clause.specs.Propagation.{clause_at}
-use Rattle.kv_clause.specs.Literals.{complement_of}
+use Rattle.std.proofs.lemmas.Bool.{cases_eq, false≢true}
 use Rattle.sat_engine.proofs.Distinct.{distinct_below}
-use Rattle.sat_engine.specs.declared.trail.Reason.{Reason}
-use Rattle.sat_engine.specs.declared.trail.Reason.TheVariants.{Free, Assumed, Clause}
 use Rattle.sat_engine.specs.declared.trail.Step.{Step}
-use Rattle.sat_engine.specs.Trail.{none_step, lit_at, reason_at, IsSet, IsTrail, Before, IsReason, AreReasons}
+use Rattle.sat_engine.specs.Trail.{none_step, lit_at, IsSet, IsTrail}
 
 pub lit_at-push : (xs : List Step) (s : Step) (i : ℕ) → i < length xs → lit_at (xs ++ s ∷ []) i ≡ lit_at xs i
 lit_at-push xs s i h = ap (λ (x : Step). x.lit) (get_or_append_left xs (s ∷ []) none_step i h)

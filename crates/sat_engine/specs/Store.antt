@@ -1,4 +1,4 @@
-use Rattle.std.specs.Prelude.{ℕ, ◌-◌, ◌≤◌, List, [], ◌∷◌, map, take, drop, length}
+use Rattle.std.specs.Prelude.{ℕ, ◌-◌, ◌≤◌, List, map, take, drop, length}
 use Rattle.std.specs.List.{All}
 use Rattle.sat_engine.specs.declared.store.Head.{Head}
 

@@ -60,7 +60,10 @@ fn visit(
             i += 1;
             continue;
         }
-        let other = watches.other(watch.clause, lit);
+        let Some(other) = watches.other(watch.clause, lit) else {
+            let _forgotten = list.swap_remove(i);
+            continue;
+        };
         if is_true(&trail.truth, other) {
             list[i] = Watch {
                 clause: watch.clause,

@@ -34,7 +34,8 @@ fn a_watch_has_another_literal(rt: HostRuntime) -> Result<(), Fail> {
     watches.widen(alloc)?;
     watches.add(0, complement(1), 3)?;
     watches.skip()?;
-    assert!(rt; watches.other(0, 3) == 0);
+    assert!(rt; watches.other(0, 3) == Some(0));
+    assert!(rt; watches.watched(0) == Some((0, 3)));
     watches.rewatch(0, 3, 1)?;
     let list = watches.take(alloc, 1);
     assert!(rt; list.len() == 1);

@@ -9,12 +9,15 @@ pub struct Watch {
     pub blocker: u32,
 }
 
-/// The two literals that a clause watches.
+/// The two literals that a clause watches, or `NOTHING` twice.
 #[derive(Clone, Copy, Debug)]
 struct Pair {
     one: u32,
     two: u32,
 }
+
+/// No literal.
+const NOTHING: u32 = u32::MAX;
 
 /// Which clauses watch each literal. No proof rests on it.
 #[derive(Drop)]
@@ -39,12 +42,25 @@ impl Watches {
         Ok(())
     }
 
-    /// The clause's watched literal that is not `lit`.
-    pub fn other(&self, clause: u32, lit: u32) -> u32 {
-        match self.pairs.get(clause as usize) {
-            Some(pair) => { if pair.one == lit { pair.two } else { pair.one } }
-            None => lit,
+    /// The literal that the clause watches beside `lit`, if it watches that one.
+    pub fn other(&self, clause: u32, lit: u32) -> Option<u32> {
+        let pair = self.pairs.get(clause as usize)?;
+        if pair.one == lit {
+            Some(pair.two)
+        } else if pair.two == lit {
+            Some(pair.one)
+        } else {
+            None
         }
+    }
+
+    /// The two literals that the clause watches.
+    pub fn watched(&self, clause: u32) -> Option<(u32, u32)> {
+        let pair = self.pairs.get(clause as usize)?;
+        if pair.one == NOTHING {
+            return None;
+        }
+        Some((pair.one, pair.two))
     }
 
     fn put(&mut self, lit: u32, watch: Watch) -> Result<(), NoMemory> {
@@ -54,9 +70,12 @@ impl Watches {
         Ok(())
     }
 
-    /// Watches two literals of the next clause, whose number is `clause`.
+    /// Has the clause watch two of its literals.
     pub fn add(&mut self, clause: u32, one: u32, two: u32) -> Result<(), NoMemory> {
-        self.pairs.push(Pair { one, two })?;
+        for _ in self.pairs.len()..=clause as usize {
+            self.skip()?;
+        }
+        self.set(clause, Pair { one, two });
         self.put(
             one,
             Watch {
@@ -73,20 +92,41 @@ impl Watches {
         )
     }
 
-    /// Leaves out the next clause, which need not be looked at again.
+    /// Leaves out the next clause.
     pub fn skip(&mut self) -> Result<(), NoMemory> {
-        self.pairs.push(Pair { one: 0, two: 0 })?;
+        self.pairs.push(Pair {
+            one: NOTHING,
+            two: NOTHING,
+        })?;
         Ok(())
+    }
+
+    fn set(&mut self, clause: u32, pair: Pair) {
+        if let Some(place) = self.pairs.get_mut(clause as usize) {
+            *place = pair;
+        }
+    }
+
+    /// Has the clause watch nothing. What the lists have of it goes when it is met.
+    pub fn forget(&mut self, clause: u32) {
+        self.set(
+            clause,
+            Pair {
+                one: NOTHING,
+                two: NOTHING,
+            },
+        );
     }
 
     /// Watches `to` beside `other`. The list that `to` replaces stays with the caller.
     pub fn rewatch(&mut self, clause: u32, other: u32, to: u32) -> Result<(), NoMemory> {
-        if let Some(pair) = self.pairs.get_mut(clause as usize) {
-            *pair = Pair {
+        self.set(
+            clause,
+            Pair {
                 one: other,
                 two: to,
-            };
-        }
+            },
+        );
         self.put(
             to,
             Watch {

@@ -6,8 +6,8 @@ use Rattle.proof_checker.proofs.Bases.{Conflict-false}
 use Rattle.proof_checker.proofs.Ready.{IsReady-same}
 use Rattle.proof_checker.proofs.parts.insert.Goals as goal
 
-pub returns-in_ok-skip-in-False-clause-ready : goal.returns-in_ok-skip-in-False-clause-ready
-returns-in_ok-skip-in-False-clause-ready c =
+pub returns-in-False-clause-ready : goal.returns-in-False-clause-ready
+returns-in-False-clause-ready c =
     let p = c.append.new.parts in
     let t = p.trail in
     let cl : List ℕ = c.args.clause.now in

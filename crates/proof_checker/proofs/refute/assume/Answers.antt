@@ -1,5 +1,4 @@
-use Rattle.std.proofs.Common.{ℕ, ◌≡◌, ◌<◌, ◌+◌, List, Bool, true, false, refl, length, get_or, subst, sym, ap, ◌∙◌, arith, below_more}
-use Rattle.std.specs.List.{Contains}
+use Rattle.std.proofs.Common.{ℕ, List, false, refl, get_or, subst, sym, ◌∙◌, arith, below_more}
 use Rattle.std.proofs.lemmas.List.{get_or_read}
 use Rattle.std.proofs.lemmas.List.Elements.{Contains-get_or}
 use Rattle.kv_clause.specs.Literals.{complement_of}

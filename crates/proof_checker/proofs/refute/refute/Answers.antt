@@ -1,4 +1,4 @@
-use Rattle.std.proofs.Common.{ℕ, ◌≡◌, List, Bool, true, false, length, subst}
+use Rattle.std.proofs.Common.{ℕ, List, Bool, false, subst}
 use Rattle.proof_checker.specs.Base.{IsBase, AreSet, AssumeSays}
 use Rattle.proof_checker.proofs.Bases.{exact_from, IsBase-grow, set_grow}
 use Rattle.proof_checker.proofs.refute.refute.Goals as goal

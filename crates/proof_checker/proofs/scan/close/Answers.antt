@@ -1,14 +1,9 @@
-use Rattle.std.proofs.Common.{ℕ, ◌≡◌, ◌≢◌, ◌+◌, ◌<◌, List, Bool, length, subst, sym, ap, ◌∙◌, arith}
-use Rattle.std.specs.List.{Contains}
+use Rattle.std.proofs.Common.{ℕ, ◌≡◌, ◌+◌, ◌<◌, List, Bool, length, subst, ap, ◌∙◌, arith}
 use Rattle.std.proofs.lemmas.Bool.{false_from_ne_true}
 use Rattle.std.proofs.lemmas.List.{get_or_default, length_push}
-use Rattle.kv_clause.specs.Literals.{complement_of}
 use Rattle.kv_clause.specs.Propagation.{clause_at}
 use Rattle.sat_engine.specs.declared.trail.Reason.TheVariants.{Clause}
 use Rattle.sat_engine.specs.declared.trail.Step.{Step}
-use Rattle.sat_engine.specs.Trail.{IsSet}
-use Rattle.sat_engine.specs.Look.{AreFalse, AreFalseBut}
-use Rattle.sat_engine.specs.Grow.{Grows}
 use Rattle.sat_engine.proofs.Trails.{IsTrail-length}
 use Rattle.sat_engine.proofs.Growing.{Grows-trans, Grows-imply}
 use Rattle.proof_checker.specs.Scan.{IsSettled, ScanSays}

@@ -1,4 +1,4 @@
-use Rattle.std.proofs.Common.{ℕ, ◌≡◌, ◌<◌, List, Bool, length, subst, arith, below_more}
+use Rattle.std.proofs.Common.{ℕ, List, subst, arith, below_more}
 use Rattle.kv_clause.specs.Propagation.{clause_at}
 use Rattle.proof_checker.specs.Scan.{IsSettled}
 use Rattle.proof_checker.proofs.scan.scan_all.Goals as goal

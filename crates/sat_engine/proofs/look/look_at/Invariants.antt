@@ -1,4 +1,4 @@
-use Rattle.std.proofs.Common.{ℕ, ◌≡◌, ◌≢◌, ◌<◌, Bool, true, get_or}
+use Rattle.std.proofs.Common.{ℕ, ◌≡◌, ◌≢◌, ◌<◌, true, get_or}
 use Rattle.std.specs.List.{Contains}
 use Rattle.kv_clause.specs.Literals.{complement_of}
 use Rattle.sat_engine.specs.Trail.{IsSet}

@@ -1,4 +1,4 @@
-use Rattle.std.proofs.Common.{arith, ◌∙◌}
+use Rattle.std.proofs.Common.{◌∙◌}
 use Rattle.sat_engine.proofs.Growing.{Grows-trans}
 use Rattle.sat_engine.proofs.propagation.visit.Goals as goal
 

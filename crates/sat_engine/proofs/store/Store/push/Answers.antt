@@ -1,6 +1,5 @@
-use Rattle.std.proofs.Common.{◌≡◌, ◌++◌, sym, arith, rules, ◌∙◌, ap}
+use Rattle.std.proofs.Common.{arith, rules, ◌∙◌}
 use Rattle.std.proofs.lemmas.Result.{err_from_is_err_and}
-use Rattle.sat_engine.specs.Store.{clauses_of, HeadsFit}
 use Rattle.sat_engine.proofs.Stored.{clauses_of-append, clauses_of-push}
 use Rattle.sat_engine.proofs.store.Store.push.Goals as goal
 
