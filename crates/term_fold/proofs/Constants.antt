@@ -1,5 +1,5 @@
 -- Constants of an integer type.
-use Rattle.std.proofs.Common.{arith, ◌≡◌, ℕ, ◌^◌, ◌<◌, ◌≤◌, Bool, true, false, ◌&&◌, ℤ, pos, negsuc, ◌+ℤ◌, ◌≤ℤ◌, ◌<ℤ◌, nat_lt, to_z, of_z, FitsSigned, refl, sym, ap, subst, ◌∙◌, if◌then◌else◌}
+use Rattle.std.proofs.Common.{arith, ◌≡◌, ℕ, ◌^◌, ◌<◌, ◌≤◌, Bool, true, false, not, ◌&&◌, ℤ, pos, negsuc, ◌+ℤ◌, ◌≤ℤ◌, ◌<ℤ◌, nat_lt, to_z, of_z, FitsSigned, refl, sym, ap, subst, ◌∙◌, if◌then◌else◌}
 use Rattle.std.proofs.lemmas.Int.{ints, to_z-of_z}
 use Rattle.std.proofs.lemmas.Grind.{common_steps}
 use Rattle.std.proofs.Math.Nat.{mod-eq_of_lt}
@@ -109,6 +109,37 @@ fits_constant t z f h = tested (z +ℤ pos (below_of t)) (size_of t) f (λ x. le
 
 pub fits_quotient : (t : IntType) (a b : ℤ) (f : Bool) → IsTrue f ↔ InRange t (quotient_of a b) → (b ≡ pos 0 → ⊥) → f ≡ has_shape (shape_of t) (quotient_by a b)
 fits_quotient t a b f h nonzero = fits_constant t (quotient_of a b) f h ∙ ap (has_shape (shape_of t)) (sym (chosen_last (int_eq b (pos 0)) (pos 0) (quotient_of a b) (apart b (pos 0) nonzero)))
+
+-- ---- tests of shifts
+
+nonnegative : (m : ℕ) → int_lt (pos m) (pos 0) ≡ false
+nonnegative m = grind (arith, ints)
+
+negative : (m : ℕ) → int_lt (negsuc m) (pos 0) ≡ true
+negative m = grind (arith, ints)
+
+never : (f : Bool) (m : ℕ) → (IsTrue f → pos 0 ≤ℤ negsuc m) → f ≡ false
+never true m h = let low = h refl in absurd (omega (arith, ints, low))
+never false m h = refl
+
+shift_tested : (t : IntType) (x z : ℤ) (f : Bool) → IsTrue f ↔ ((pos 0 ≤ℤ x) × InRange t z) → f ≡ (not (int_lt x (pos 0)) && has_shape (shape_of t) z)
+shift_tested t (pos m) z f h =
+    let low : pos 0 ≤ℤ pos m = omega (arith, ints) in
+    fits_constant t z f (λ y. (h.0 y).1, λ r. h.1 (low, r)) ∙ ap (λ b. not b && has_shape (shape_of t) z) (sym (nonnegative m))
+shift_tested t (negsuc m) z f h = never f m (λ y. (h.0 y).0) ∙ ap (λ b. not b && has_shape (shape_of t) z) (sym (negative m))
+
+pub shl_fits : (t : IntType) (r : Shape) (a b : ℤ) (w : ℕ) (f : Bool) → FitsSigned w128 a → FitsSigned w128 b → w ≡ width_of t → lt_z (to_z w128 (of_z w128 b)) (pos 0) ≡ false → le_z (to_z w128 w) (to_z w128 (of_z w128 b)) ≡ false → HasShape r b
+    → IsTrue f ↔ ((pos 0 ≤ℤ to_z w128 (of_z w128 a)) × InRange t (left_of (to_z w128 (of_z w128 a)) (unsigned_abs (to_z w128 (of_z w128 b))))) → f ≡ fits_value (shape_of t) r ShiftLeft a b
+shl_fits t r a b w f fa fb ew low high has e =
+    let d = distance_is w b (width_small t w ew) fb low high in
+    let P : ℤ → Type 0 = λ x. HasShape r x in
+    let Q : ℤ → Type 0 = λ x. IsTrue f ↔ ((pos 0 ≤ℤ x) × InRange t (left_of x (unsigned_abs (to_z w128 (of_z w128 b))))) in
+    let R : ℤ → Type 0 = λ x. IsTrue f ↔ ((pos 0 ≤ℤ a) × InRange t (left_of a (unsigned_abs x))) in
+    let exact : IsTrue f ↔ ((pos 0 ≤ℤ a) × InRange t (left_of a d.0)) = subst R (to_z-of_z w128 b fb ∙ d.1) (subst Q (to_z-of_z w128 a fa) e) in
+    let is : HasShape r (pos d.0) = subst P d.1 has in
+    let by : (if nat_lt (bits_at r.width (pos d.0)) (width_of t) then left_of a (bits_at r.width (pos d.0)) else pos 0) ≡ left_of a d.0 =
+    ap (λ x. if nat_lt x (width_of t) then left_of a x else pos 0) (bits_distance r d.0 is) ∙ chosen_first (nat_lt d.0 (width_of t)) (left_of a d.0) (pos 0) (less_test d.0 (width_of t) (omega (arith, ew, d.2))) in
+    shift_tested t a (left_of a d.0) f exact ∙ ap (λ v. not (int_lt a (pos 0)) && has_shape (shape_of t) v) (sym by) ∙ ap (fits_value (shape_of t) r ShiftLeft a) (sym d.1)
 
 -- ---- an operation on two constants
 

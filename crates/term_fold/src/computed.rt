@@ -1,5 +1,6 @@
 ghost use Rattle.std.specs.Prelude.{◌≡◌, IfSome};
 ghost use Rattle.kv_num.specs.IntType.{InRange};
+ghost use Rattle.term_core.specs.declared.term.BinaryOp.TheVariants as Op;
 ghost use Rattle.term_core.specs.Shape.{HasShape, shape_of};
 ghost use Rattle.term_core.specs.Term.{unary_value, binary_value, fits_value, OperandsFit};
 
@@ -89,6 +90,20 @@ pub(crate) fn fitting(t: IntType, other: Shape, op: BinaryOp, a: i128, b: i128) 
         BinaryOp::Mul => Some(kv_num::mul(t, a, b).fits),
         BinaryOp::Div if b != 0 => Some(kv_num::div(t, a, b).fits),
         BinaryOp::Rem if b != 0 => Some(kv_num::rem(t, a, b).fits),
+        BinaryOp::ShiftLeft => shift_fitting(t, other, a, b),
         _ => None,
     }
+}
+
+/// Whether the exact result of a left shift of a constant of a type by a constant distance fits it, if C
+/// defines it.
+fn shift_fitting(t: IntType, other: Shape, a: i128, b: i128) -> Option<bool>
+    requires left { InRange t a }
+    requires right { HasShape other b }
+    ensures { IfSome result (λ fits. fits ≡ fits_value (shape_of t) other Op.ShiftLeft a b) }
+{
+    if b < 0 || b >= kv_num::width(t) as i128 {
+        return None;
+    }
+    Some(kv_num::shl(t, a, b as u32).fits)
 }

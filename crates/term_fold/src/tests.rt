@@ -451,3 +451,77 @@ fn random_terms_keep_their_values(rt: HostRuntime) -> Result<(), Fail> {
     }
     Ok(())
 }
+
+/// The least and the greatest number of a type, and numbers near 0.
+fn ends(t: IntType) -> [i128; 5] {
+    let least = if kv_num::is_signed(t) {
+        kv_num::wrap(t, 1i128.wrapping_shl(kv_num::width(t).saturating_sub(1)))
+    } else {
+        0
+    };
+    let greatest = kv_num::wrap(t, least.wrapping_sub(1));
+    [least, greatest, 0, 1, kv_num::wrap(t, -1)]
+}
+
+/// Whether C defines an operation where this is the second operand.
+fn is_defined(shape: Shape, op: BinaryOp, b: i128) -> bool {
+    match op {
+        BinaryOp::Div | BinaryOp::Rem => b != 0,
+        BinaryOp::ShiftLeft | BinaryOp::ShiftRight => shift_distance(shape, b).is_some(),
+        _ => true,
+    }
+}
+
+/// Whether an operation on two constants folds to its result, and the test whether that fits to a truth.
+fn is_computed(
+    alloc: Global,
+    t: IntType,
+    op: BinaryOp,
+    a: i128,
+    b: i128,
+) -> Result<bool, NoMemory> {
+    let mut terms = Terms::new(alloc);
+    let shape = Shape::of(t);
+    let left = constant(&mut terms, t, a)?;
+    let right = constant(&mut terms, t, b)?;
+    let sum = operation(&mut terms, op, left, right)?;
+    let fits = fitting(&mut terms, op, left, right)?;
+    if sum.0 >= terms.len() || fits.0 >= terms.len() {
+        return Ok(false);
+    }
+    let folded = fold(alloc, &mut terms, sum)?;
+    let Some(wanted) = integer_type(result_of(op, shape)) else {
+        return Ok(false);
+    };
+    let expected = constant(&mut terms, wanted, result(shape, op, a, b))?;
+    let is_same = folded == expected;
+    if fits.0 >= terms.len() {
+        return Ok(false);
+    }
+    let folded = fold(alloc, &mut terms, fits)?;
+    let truth = is_fitting(shape, op, a, b) as i128;
+    let expected = constant(&mut terms, IntType::Bool, truth)?;
+    Ok(is_same && folded == expected)
+}
+
+/// Whether an operation is computed at the ends of a type's range.
+fn is_computed_at_ends(alloc: Global, t: IntType, op: BinaryOp) -> Result<bool, NoMemory> {
+    for a in ends(t) {
+        for b in ends(t) {
+            if is_defined(Shape::of(t), op, b) && !is_computed(alloc, t, op, a, b)? {
+                return Ok(false);
+            }
+        }
+    }
+    Ok(true)
+}
+
+#[test]
+fn operations_are_computed_at_the_ends(rt: HostRuntime) -> Result<(), Fail> {
+    for t in TYPES {
+        for op in OPERATIONS {
+            assert!(rt; is_computed_at_ends(rt.alloc(), t, op)?);
+        }
+    }
+    Ok(())
+}
