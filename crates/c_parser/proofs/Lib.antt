@@ -6,3 +6,7 @@ pub mod Sound
 pub mod Complete
 pub mod TypeSteps
 pub mod SoundTypes
+pub mod SoundDeclarators
+pub mod SoundReaders
+pub mod StatementSteps
+pub mod SoundStatements
