@@ -10,3 +10,4 @@ pub mod SoundDeclarators
 pub mod SoundReaders
 pub mod StatementSteps
 pub mod SoundStatements
+pub mod SoundText
