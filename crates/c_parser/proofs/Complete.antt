@@ -89,13 +89,13 @@ taken kinds n k least x q kind s a f b d e =
 goes_by_needs : (kinds : List TokenKind) (least k : ℕ) (q : Place) (kind : TokenKind) (s : Suffix) → At kinds q kind → suffix_of kind ≡ s → needs s ≤ k → Ends kinds least k q
 goes_by_needs kinds least k q kind s a f d = let w : suffix (kind_at kinds q) ≡ s = ap suffix a ∙ f in inr (subst (λ z. needs z ≤ k) (sym w) d)
 
-below_at : (kinds : List TokenKind) (k : ℕ) (q : Place) (kind : TokenKind) (s : Suffix) → At kinds q kind → suffix_of kind ≡ s → below s ≤ k → below (suffix (kind_at kinds q)) ≤ k
+pub below_at : (kinds : List TokenKind) (k : ℕ) (q : Place) (kind : TokenKind) (s : Suffix) → At kinds q kind → suffix_of kind ≡ s → below s ≤ k → below (suffix (kind_at kinds q)) ≤ k
 below_at kinds k q kind s a f d = let w : suffix (kind_at kinds q) ≡ s = ap suffix a ∙ f in subst (λ z. below z ≤ k) (sym w) d
 
 abbrev Exact : List TokenKind → ℕ → ℕ → Place → Place → Expression → Type 0
 Exact kinds n k p q x = (p.at < q.at) × (read kinds n k p ≡ Gives x q)
 
-exact : (kinds : List TokenKind) (k : ℕ) (p q : Place) (x : Expression) → Reaches kinds k p q x → (n : ℕ) → k ≤ 14
+pub exact : (kinds : List TokenKind) (k : ℕ) (p q : Place) (x : Expression) → Reaches kinds k p q x → (n : ℕ) → k ≤ 14
     → below (suffix (kind_at kinds q)) ≤ k → Enough kinds n p → Exact kinds n k p q x
 exact kinds k p q x reaches n le stop e =
     let g = reaches n k (omega arith) le (inl stop) e in

@@ -11,3 +11,7 @@ pub mod SoundReaders
 pub mod StatementSteps
 pub mod SoundStatements
 pub mod SoundText
+pub mod Leads
+pub mod CompleteTypes
+pub mod CompleteSpecifiers
+pub mod CompleteDeclarators
