@@ -139,21 +139,21 @@ leads kinds k from to whole (grammar.pass j p r y d) = leads kinds (j + 1) p r y
 
 -- ---- primary expressions
 
-name_goes : (kinds : List TokenKind) (p : Place) (text : List ℕ) → At kinds p (token.Name text) → IsOrdinary p text
+pub name_goes : (kinds : List TokenKind) (p : Place) (text : List ℕ) → At kinds p (token.Name text) → IsOrdinary p text
     → Reaches kinds 15 p (next p) (tree.Name text p.at)
 name_goes kinds p text a o n least h l s e =
     let b = begun kinds n least p (token.Name text) (Names text) a refl e in
     (b.0, b.1, omega arith, b.2 ∙ ap (λ c. if c then Refuses else more kinds b.0 15 least (tree.Name text p.at) (next p)) o)
 
-constant_goes : (kinds : List TokenKind) (p : Place) (kind : IntType) (value : ℤ) → At kinds p (token.Constant kind value)
+pub constant_goes : (kinds : List TokenKind) (p : Place) (kind : IntType) (value : ℤ) → At kinds p (token.Constant kind value)
     → Reaches kinds 15 p (next p) (tree.Constant kind value p.at)
 constant_goes kinds p kind value a n least h l s e =
     let b = begun kinds n least p (token.Constant kind value) (Constants kind value) a refl e in (b.0, b.1, omega arith, b.2)
 
-text_goes : (kinds : List TokenKind) (p : Place) → At kinds p token.Text → Reaches kinds 15 p (next p) (tree.Text p.at)
+pub text_goes : (kinds : List TokenKind) (p : Place) → At kinds p token.Text → Reaches kinds 15 p (next p) (tree.Text p.at)
 text_goes kinds p a n least h l s e = let b = begun kinds n least p token.Text Texts a refl e in (b.0, b.1, omega arith, b.2)
 
-brackets_goes : (kinds : List TokenKind) (p q : Place) (x : Expression) → At kinds p token.LeftParenthesis → begins_type kinds (next p) ≡ false
+pub brackets_goes : (kinds : List TokenKind) (p q : Place) (x : Expression) → At kinds p token.LeftParenthesis → begins_type kinds (next p) ≡ false
     → Reaches kinds 0 (next p) q x → At kinds q token.RightParenthesis → Reaches kinds 15 p (next q) x
 brackets_goes kinds p q x a f ih c n least h l s e =
     let b = begun kinds n least p token.LeftParenthesis Opens a refl e in
@@ -172,7 +172,7 @@ brackets_goes kinds p q x a f ih c n least h l s e =
 
 -- ---- postfix expressions
 
-subscript_goes : (kinds : List TokenKind) (p q r : Place) (x y : Expression) → Reaches kinds 15 p q x → At kinds q token.LeftBracket
+pub subscript_goes : (kinds : List TokenKind) (p q r : Place) (x y : Expression) → Reaches kinds 15 p q x → At kinds q token.LeftBracket
     → Reaches kinds 0 (next q) r y → At kinds r token.RightBracket → Reaches kinds 15 p (next r) (tree.Subscript x y q.at)
 subscript_goes kinds p q r x y ihx a ihy c n least h l s e =
     let i = ihx n least h l (goes_by_needs kinds least 15 q token.LeftBracket Subscripts a refl (omega arith)) e in
@@ -189,7 +189,7 @@ subscript_goes kinds p q r x y ihx a ihy c n least h l s e =
           ∙ ap (λ z. where_square (suffix z) (go 15 least (tree.Subscript x y q.at) (next r))) c,
     )
 
-call_empty_goes : (kinds : List TokenKind) (p q : Place) (x : Expression) → Reaches kinds 15 p q x → At kinds q token.LeftParenthesis
+pub call_empty_goes : (kinds : List TokenKind) (p q : Place) (x : Expression) → Reaches kinds 15 p q x → At kinds q token.LeftParenthesis
     → At kinds (next q) token.RightParenthesis → Reaches kinds 15 p (next (next q)) (tree.Call x [] q.at)
 call_empty_goes kinds p q x ihx a c n least h l s e =
     let i = ihx n least h l (goes_by_needs kinds least 15 q token.LeftParenthesis Calls a refl (omega arith)) e in
@@ -249,11 +249,11 @@ leads_not_round kinds k from to whole (grammar.assign p r s operator y z d a e) 
 leads_not_round kinds k from to whole (grammar.comma p r s y ys d a e) = leads_not_round kinds 1 p r y d
 leads_not_round kinds k from to whole (grammar.pass j p r y d) = leads_not_round kinds (j + 1) p r y d
 
-items_not_round : (kinds : List TokenKind) (p q : Place) (xs : List Expression) → AreAssignments kinds p q xs → NotRound (suffix (kind_at kinds p))
+pub items_not_round : (kinds : List TokenKind) (p q : Place) (xs : List Expression) → AreAssignments kinds p q xs → NotRound (suffix (kind_at kinds p))
 items_not_round kinds from to whole (grammar.one_assignment p r x d) = leads_not_round kinds 1 p r x d
 items_not_round kinds from to whole (grammar.more_assignments p r s x ys d a e) = leads_not_round kinds 1 p r x d
 
-call_goes : (kinds : List TokenKind) (p q r : Place) (x : Expression) (xs : List Expression) → Reaches kinds 15 p q x → At kinds q token.LeftParenthesis
+pub call_goes : (kinds : List TokenKind) (p q r : Place) (x : Expression) (xs : List Expression) → Reaches kinds 15 p q x → At kinds q token.LeftParenthesis
     → NotRound (suffix (kind_at kinds (next q))) → ReachesItems kinds (next q) r xs → At kinds r token.RightParenthesis
     → Reaches kinds 15 p (next r) (tree.Call x xs q.at)
 call_goes kinds p q r x xs ihx a f ihs c n least h l s e =
@@ -273,7 +273,7 @@ call_goes kinds p q r x xs ihx a f ihs c n least h l s e =
           ∙ ap (λ z. where_round (suffix z) (go 15 least (tree.Call x xs q.at) (next r))) c,
     )
 
-member_goes : (kinds : List TokenKind) (p q : Place) (x : Expression) (text : List ℕ) → Reaches kinds 15 p q x → At kinds q token.Dot
+pub member_goes : (kinds : List TokenKind) (p q : Place) (x : Expression) (text : List ℕ) → Reaches kinds 15 p q x → At kinds q token.Dot
     → At kinds (next q) (token.Name text) → Reaches kinds 15 p (next (next q)) (tree.Member x text q.at)
 member_goes kinds p q x text ihx a c n least h l s e =
     let i = ihx n least h l (goes_by_needs kinds least 15 q token.Dot Selects a refl (omega arith)) e in
@@ -281,7 +281,7 @@ member_goes kinds p q x text ihx a c n least h l s e =
     let lp : p.at < q.at = i.2 in
     (t.0, omega (arith, t.1), omega arith, i.3 ∙ t.2 ∙ ap (λ z. where_name (prefix z) (λ w. more kinds t.0 15 least (tree.Member x w q.at) (next (next q)))) c)
 
-pointed_member_goes : (kinds : List TokenKind) (p q : Place) (x : Expression) (text : List ℕ) → Reaches kinds 15 p q x → At kinds q token.Arrow
+pub pointed_member_goes : (kinds : List TokenKind) (p q : Place) (x : Expression) (text : List ℕ) → Reaches kinds 15 p q x → At kinds q token.Arrow
     → At kinds (next q) (token.Name text) → Reaches kinds 15 p (next (next q)) (tree.PointedMember x text q.at)
 pointed_member_goes kinds p q x text ihx a c n least h l s e =
     let i = ihx n least h l (goes_by_needs kinds least 15 q token.Arrow Points a refl (omega arith)) e in
@@ -289,7 +289,7 @@ pointed_member_goes kinds p q x text ihx a c n least h l s e =
     let lp : p.at < q.at = i.2 in
     (t.0, omega (arith, t.1), omega arith, i.3 ∙ t.2 ∙ ap (λ z. where_name (prefix z) (λ w. more kinds t.0 15 least (tree.PointedMember x w q.at) (next (next q)))) c)
 
-postfix_goes : (kinds : List TokenKind) (p q : Place) (step : Step) (x : Expression) → Reaches kinds 15 p q x → At kinds q (step_sign step)
+pub postfix_goes : (kinds : List TokenKind) (p q : Place) (step : Step) (x : Expression) → Reaches kinds 15 p q x → At kinds q (step_sign step)
     → Reaches kinds 15 p (next q) (tree.Postfix step x q.at)
 postfix_goes kinds p q step x ihx a n least h l s e =
     let i = ihx n least h l (goes_by_needs kinds least 15 q (step_sign step) (Steps step) a (suffix-step_sign step) (omega arith)) e in
@@ -308,7 +308,7 @@ ends_cast : (s : Suffix) (least : ℕ) → least ≤ 13 → (below s ≤ least) 
 ends_cast s least l (inl h) = omega arith
 ends_cast s least l (inr h) = ends_unary s (inr (omega arith))
 
-prefix_goes : (kinds : List TokenKind) (p q : Place) (step : Step) (x : Expression) → At kinds p (step_sign step) → Reaches kinds 14 (next p) q x
+pub prefix_goes : (kinds : List TokenKind) (p q : Place) (step : Step) (x : Expression) → At kinds p (step_sign step) → Reaches kinds 14 (next p) q x
     → Reaches kinds 14 p q (tree.Prefix step x p.at)
 prefix_goes kinds p q step x a ih n least h l s e =
     let b = begun kinds n least p (step_sign step) (StepsFirst step) a (prefix-step_sign step) e in
@@ -317,7 +317,7 @@ prefix_goes kinds p q step x a ih n least h l s e =
     let lt : p.at + 1 < q.at = i.0 in
     (b.0, omega (arith, b.1), omega arith, b.2 ∙ ap (λ o. and_then o (λ y v. more kinds b.0 14 least (tree.Prefix step y p.at) v)) i.1)
 
-unary_goes : (kinds : List TokenKind) (p q : Place) (operator : UnaryOperator) (x : Expression) → At kinds p (unary_sign operator)
+pub unary_goes : (kinds : List TokenKind) (p q : Place) (operator : UnaryOperator) (x : Expression) → At kinds p (unary_sign operator)
     → Reaches kinds 13 (next p) q x → Reaches kinds 14 p q (tree.Unary operator x p.at)
 unary_goes kinds p q operator x a ih n least h l s e =
     let b = begun kinds n least p (unary_sign operator) (Operates operator) a (prefix-unary_sign operator) e in
@@ -331,7 +331,7 @@ sized_plain : (kinds : List TokenKind) (rd : Reader) (types : Types) (go : Conti
 sized_plain kinds rd types go least p Opens h = ap (sized_by kinds rd types go least p) (h refl)
 sized_plain kinds rd types go least p _ h = refl
 
-sizeof_expression_goes : (kinds : List TokenKind) (p q : Place) (x : Expression) → At kinds p token.Sizeof
+pub sizeof_expression_goes : (kinds : List TokenKind) (p q : Place) (x : Expression) → At kinds p token.Sizeof
     → (prefix (kind_at kinds (next p)) ≡ Opens → begins_type kinds (next (next p)) ≡ false) → Reaches kinds 14 (next p) q x
     → Reaches kinds 14 p q (tree.SizeofExpression x p.at)
 sizeof_expression_goes kinds p q x a f ih n least h l s e =
@@ -348,7 +348,7 @@ sizeof_expression_goes kinds p q x a f ih n least h l s e =
           ∙ ap (λ o. and_then o (λ y v. go 14 least (tree.SizeofExpression y p.at) v)) i.1,
     )
 
-sizeof_type_goes : (kinds : List TokenKind) (p q : Place) (t : TypeName) → At kinds p token.Sizeof → At kinds (next p) token.LeftParenthesis
+pub sizeof_type_goes : (kinds : List TokenKind) (p q : Place) (t : TypeName) → At kinds p token.Sizeof → At kinds (next p) token.LeftParenthesis
     → ReachesType kinds (next (next p)) q t → At kinds q token.RightParenthesis → Reaches kinds 14 p (next q) (tree.SizeofType t p.at)
 sizeof_type_goes kinds p q t a d ih c n least h l s e =
     let b = begun kinds n least p token.Sizeof Sizes a refl e in
@@ -365,7 +365,7 @@ sizeof_type_goes kinds p q t a d ih c n least h l s e =
           ∙ ap (λ z. where_round (suffix z) (go 14 least (tree.SizeofType t p.at) (next q))) c,
     )
 
-cast_goes : (kinds : List TokenKind) (p q r : Place) (t : TypeName) (x : Expression) → At kinds p token.LeftParenthesis
+pub cast_goes : (kinds : List TokenKind) (p q r : Place) (t : TypeName) (x : Expression) → At kinds p token.LeftParenthesis
     → ReachesType kinds (next p) q t → At kinds q token.RightParenthesis → Reaches kinds 13 (next q) r x → Reaches kinds 13 p r (tree.Cast t x p.at)
 cast_goes kinds p q r t x a ih c ihx n least h l s e =
     let b = begun kinds n least p token.LeftParenthesis Opens a refl e in
@@ -393,7 +393,7 @@ ends_right : (s : Suffix) (least k : ℕ) → least ≤ k → (below s ≤ least
 ends_right s least k l (inl h) = omega arith
 ends_right s least k l (inr h) = omega (arith, below_needs s)
 
-binary_goes : (kinds : List TokenKind) (p q r : Place) (operator : BinaryOperator) (x y : Expression) → Reaches kinds (level operator) p q x
+pub binary_goes : (kinds : List TokenKind) (p q r : Place) (operator : BinaryOperator) (x y : Expression) → Reaches kinds (level operator) p q x
     → At kinds q (binary_sign operator) → Reaches kinds (level operator + 1) (next q) r y → Reaches kinds (level operator) p r (tree.Binary operator x y q.at)
 binary_goes kinds p q r operator x y ihx a ihy n least h l s e =
     let i = ihx n least h l (goes_by_needs kinds least (level operator) q (binary_sign operator) (Infix operator) a (suffix-binary_sign operator) (omega arith)) e in
@@ -411,7 +411,7 @@ within_two : (m k : ℕ) → 1 ≤ k → (m ≤ k) ⊎ (m ≤ 1) → m ≤ k
 within_two m k l (inl h) = h
 within_two m k l (inr h) = omega arith
 
-conditional_goes : (kinds : List TokenKind) (p q r v : Place) (x y z : Expression) → Reaches kinds 3 p q x → At kinds q token.Question
+pub conditional_goes : (kinds : List TokenKind) (p q r v : Place) (x y z : Expression) → Reaches kinds 3 p q x → At kinds q token.Question
     → Reaches kinds 0 (next q) r y → At kinds r token.Colon → Reaches kinds 2 (next r) v z → Reaches kinds 2 p v (tree.Conditional x y z q.at)
 conditional_goes kinds p q r v x y z ihx a ihy c ihz n least h l s e =
     let i = ihx n least (omega arith) l (goes_by_needs kinds least 3 q token.Question Asks a refl (omega arith)) e in
@@ -433,7 +433,7 @@ conditional_goes kinds p q r v x y z ihx a ihy c ihz n least h l s e =
           ∙ ap (λ o. and_then o (λ b u. go 2 least (tree.Conditional x y b q.at) u)) w.1,
     )
 
-assign_goes : (kinds : List TokenKind) (p q r : Place) (operator : AssignOperator) (x y : Expression) → Reaches kinds 14 p q x
+pub assign_goes : (kinds : List TokenKind) (p q r : Place) (operator : AssignOperator) (x y : Expression) → Reaches kinds 14 p q x
     → At kinds q (assign_sign operator) → Reaches kinds 1 (next q) r y → Reaches kinds 1 p r (tree.Assign operator x y q.at)
 assign_goes kinds p q r operator x y ihx a ihy n least h l s e =
     let i = ihx n least (omega arith) l (goes_by_needs kinds least 14 q (assign_sign operator) (Assigns operator) a (suffix-assign_sign operator) (omega arith)) e in
@@ -448,7 +448,7 @@ ends_commas : (s : Suffix) (least : ℕ) → least ≤ 0 → (below s ≤ least)
 ends_commas s least l (inl h) = omega arith
 ends_commas s least l (inr h) = ends_whole s h
 
-comma_goes : (kinds : List TokenKind) (p q r : Place) (x : Expression) (xs : List Expression) → Reaches kinds 1 p q x → At kinds q token.Comma
+pub comma_goes : (kinds : List TokenKind) (p q r : Place) (x : Expression) (xs : List Expression) → Reaches kinds 1 p q x → At kinds q token.Comma
     → ReachesItems kinds (next q) r xs → Reaches kinds 0 p r (tree.Comma (x ∷ xs) q.at)
 comma_goes kinds p q r x xs ihx a ihs n least h l s e =
     let i = ihx n least (omega arith) l (goes_by_needs kinds least 1 q token.Comma Commas a refl (omega arith)) e in
@@ -475,7 +475,7 @@ ends_above : (kinds : List TokenKind) (least k : ℕ) (q : Place) → Ends kinds
 ends_above kinds least k q (inl h) = inl h
 ends_above kinds least k q (inr h) = inr (omega arith)
 
-pass_goes : (kinds : List TokenKind) (k : ℕ) (p q : Place) (x : Expression) → Reaches kinds (k + 1) p q x → Reaches kinds k p q x
+pub pass_goes : (kinds : List TokenKind) (k : ℕ) (p q : Place) (x : Expression) → Reaches kinds (k + 1) p q x → Reaches kinds k p q x
 pass_goes kinds k p q x ih n least h l s e =
     let i = ih n least (omega arith) l (ends_above kinds least k q s) e in
     (i.0, i.1, i.2, i.3 ∙ more_level kinds i.0 (k + 1) k least x q (same_level k least (suffix (kind_at kinds q)) s))
@@ -493,7 +493,7 @@ counted kinds p q x ih stop e =
     let z = read_none kinds 1 p in
     cc
 
-one_goes : (kinds : List TokenKind) (p q : Place) (x : Expression) → Reaches kinds 1 p q x → ReachesItems kinds p q (x ∷ [])
+pub one_goes : (kinds : List TokenKind) (p q : Place) (x : Expression) → Reaches kinds 1 p q x → ReachesItems kinds p q (x ∷ [])
 one_goes kinds p q x ih n zero stop e f = absurd (counted kinds p q x ih (omega arith) f)
 one_goes kinds p q x ih n (suc c) stop e f =
     let i = exact kinds 1 p q x ih n (omega arith) (omega arith) e in
@@ -504,7 +504,7 @@ one_goes kinds p q x ih n (suc c) stop e f =
           ∙ items_after_ends list x q (suffix (kind_at kinds q)) stop,
     )
 
-more_items_goes : (kinds : List TokenKind) (p q r : Place) (x : Expression) (xs : List Expression) → Reaches kinds 1 p q x → At kinds q token.Comma
+pub more_items_goes : (kinds : List TokenKind) (p q r : Place) (x : Expression) (xs : List Expression) → Reaches kinds 1 p q x → At kinds q token.Comma
     → ReachesItems kinds (next q) r xs → ReachesItems kinds p r (x ∷ xs)
 more_items_goes kinds p q r x xs ih a ihs n zero stop e f = absurd (counted kinds p q x ih (below_at kinds 1 q token.Comma Commas a refl (omega arith)) f)
 more_items_goes kinds p q r x xs ih a ihs n (suc c) stop e f =

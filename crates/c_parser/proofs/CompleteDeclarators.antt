@@ -20,6 +20,7 @@ use Rattle.c_parser.specs.Reader.{Outcome, Gives, Refuses, and_then, Reader}
 use Rattle.c_parser.specs.ReadTypes as rule
 use Rattle.c_parser.specs.ReadTypes.{attributes, ListOf, Specified, Specifies, Titled, Titles, Takes, Taken, Perhaps, With, Without, Suffixes, qualifiers}
 use Rattle.c_parser.specs.Readers.{read, specifiers, perhaps, declarator, types}
+use Rattle.c_parser.proofs.Steps.{then_gives}
 use Rattle.c_parser.proofs.TypeSteps.{suffixes_on, parameters_on, arrays_on, unnamed_on, perhaps_on}
 use Rattle.c_parser.proofs.Complete.{Enough, Reaches, ReachesType, exact, below_at}
 use Rattle.c_parser.proofs.Leads.{is_operand, begins_declarator, follows_specifiers, begins_specifiers, is_attribute, is_suffix, declarator_follows, extends_no_suffix, extends_no_attribute, attributes_no_suffix}
@@ -312,19 +313,37 @@ ends_declarator : (kinds : List TokenKind) (p : Place) → EndsParameter kinds p
 ends_declarator kinds p (inl a) = ap (λ k. extends_declarator (mark k)) a
 ends_declarator kinds p (inr a) = ap (λ k. extends_declarator (mark k)) a
 
-pub named_parameter_goes : (kinds : List TokenKind) (p q r s : Place) (defines : Bool) (list : List Specifier) (name : List ℕ) (parameters : Option (List Entry)) (inner : Declarator)
-    → ReachesSpecifiers kinds p q defines list → begins_declarator (mark_at kinds q) ≡ true → ReachesDeclarator kinds q r (Titles name parameters inner) → AreAttributes kinds r s
-    → ReachesAttributes kinds r s → ReachesParameter kinds p (declare s name false) (record { specifiers = list; declarator = inner })
-named_parameter_goes kinds p q r s defines list name parameters inner ih l jh a kh n ends e =
-    let x = ends_declarator kinds s ends in
+abbrev made : List Specifier → Declarator → List ℕ → Place → Outcome Parameter
+made list inner name r = Gives (record { specifiers = list; declarator = inner }) (declare r name false)
+
+decorated_with : (list : List Specifier) (name : List ℕ) (parameters : Option (List Entry)) (inner : Declarator) (n : List ℕ) (ps : Option (List Entry)) (x : Declarator) (r : Place)
+    (o : Outcome (Unit {0})) → and_then o (λ u s. Gives (Titles n ps x) s) ≡ Gives (Titles name parameters inner) r
+    → and_then o (λ u s. made list x n s) ≡ made list inner name r
+decorated_with list name parameters inner n ps x r (Gives u s) h =
+    let a : Titles n ps x ≡ Titles name parameters inner = cc in
+    let b : s ≡ r = cc in
+    let c : n ≡ name = cc in
+    let d : x ≡ inner = cc in
+    ap (λ z. made list z n s) d ∙ ap (λ z. made list inner z s) c ∙ ap (λ z. made list inner name z) b
+decorated_with list name parameters inner n ps x r Refuses h = cc
+
+-- with a name, and what has no meaning behind it
+decorated_perhaps : (skip : rule.Skips) (list : List Specifier) (name : List ℕ) (parameters : Option (List Entry)) (inner : Declarator) (y : Perhaps) (q r : Place)
+    → rule.decorated_by skip y q ≡ Gives (Titles name parameters inner) r → rule.parameter_after skip list y q ≡ Gives (record { specifiers = list; declarator = inner }) (declare r name false)
+decorated_perhaps skip list name parameters inner (With (Titles n ps x)) q r h = decorated_with list name parameters inner n ps x r (skip q) h
+decorated_perhaps skip list name parameters inner (Without x) q r h = cc
+
+pub named_parameter_goes : (kinds : List TokenKind) (p q r : Place) (defines : Bool) (list : List Specifier) (name : List ℕ) (parameters : Option (List Entry)) (inner : Declarator)
+    → ReachesSpecifiers kinds p q defines list → begins_declarator (mark_at kinds q) ≡ true → ReachesDecorated kinds q r (Titles name parameters inner)
+    → ReachesParameter kinds p (declare r name false) (record { specifiers = list; declarator = inner })
+named_parameter_goes kinds p q r defines list name parameters inner ih l jh n ends e =
     let i = ih n (declarator_follows (mark_at kinds q) l) e in
     let lt : p.at < q.at = i.0 in
-    let j = jh n (attributes_no_suffix kinds r s a (extends_no_suffix (mark_at kinds s) x)) (omega (arith, lt)) in
+    let j = jh n (ends_declarator kinds r ends) (omega (arith, lt)) in
     let lr : q.at < r.at = j.0 in
-    let k = kh n (extends_no_attribute (mark_at kinds s) x) (omega (arith, lt, lr)) in
-    let ls : r.at ≤ s.at = k.0 in
-    (omega (arith, lt, lr, ls), then_on (specifiers kinds n p) (Specifies defines list) q _ i.1 ∙ then_on (perhaps kinds n q) (With (Titles name parameters inner)) r _ j.1
-          ∙ then_on (attributes kinds n r) tt s _ k.1)
+    let t = then_gives (perhaps kinds n q) (rule.decorated_by (attributes kinds n)) (Titles name parameters inner) r j.1 in
+    (omega (arith, lt, lr), then_on (specifiers kinds n p) (Specifies defines list) q _ i.1 ∙ then_on (perhaps kinds n q) t.0 t.1 _ t.2
+          ∙ decorated_perhaps (attributes kinds n) list name parameters inner t.0 t.1 r t.3)
 
 pub unnamed_parameter_goes : (kinds : List TokenKind) (p q r : Place) (defines : Bool) (list : List Specifier) (inner : Declarator) → ReachesSpecifiers kinds p q defines list
     → IsUnnamed kinds InParameter q r inner → ReachesUnnamed kinds InParameter q r inner → ReachesParameter kinds p r (record { specifiers = list; declarator = inner })

@@ -15,3 +15,4 @@ pub mod Leads
 pub mod CompleteTypes
 pub mod CompleteSpecifiers
 pub mod CompleteDeclarators
+pub mod CompleteReaders
