@@ -16,3 +16,4 @@ pub mod CompleteTypes
 pub mod CompleteSpecifiers
 pub mod CompleteDeclarators
 pub mod CompleteReaders
+pub mod CompleteDeclarations
