@@ -17,3 +17,4 @@ pub mod CompleteSpecifiers
 pub mod CompleteDeclarators
 pub mod CompleteReaders
 pub mod CompleteDeclarations
+pub mod StatementLeads
