@@ -18,3 +18,4 @@ pub mod CompleteDeclarators
 pub mod CompleteReaders
 pub mod CompleteDeclarations
 pub mod StatementLeads
+pub mod CompleteStatements

@@ -16,12 +16,13 @@ use Rattle.c_tree.specs.declared.expression.Specifier.{Specifier}
 use Rattle.c_tree.specs.declared.declaration.Declaration.{Declaration}
 use Rattle.c_tree.specs.declared.statement.Statement.{Statement}
 use Rattle.c_tree.specs.declared.statement.Branch.{Branch}
+use Rattle.c_tree.specs.declared.statement.BlockItem.{BlockItem}
 use Rattle.c_tree.specs.Places.{Place, At, next}
 use Rattle.c_tree.specs.Signs.{step_sign, unary_sign, binary_sign, assign_sign, level, storage_sign}
 use Rattle.c_tree.specs.Spells as grammar
 use Rattle.c_tree.specs.Spells.{IsExpression, AreAttributes, AreSpecifiers, AreFurther, IsSpecifier, Role}
 use Rattle.c_tree.specs.SpellsStatements as statements
-use Rattle.c_tree.specs.SpellsStatements.{IsDeclaration, IsStatement, IsChain}
+use Rattle.c_tree.specs.SpellsStatements.{IsDeclaration, IsStatement, IsChain, AreItems}
 use Rattle.c_parser.specs.Kinds.{kind_at, begins_type, is_start, start}
 use Rattle.c_parser.specs.Marks as sign
 use Rattle.c_parser.specs.Marks.{Mark, mark, mark_at, mark_of}
@@ -31,7 +32,7 @@ use Rattle.c_parser.proofs.Complete.{leads}
 use Rattle.c_parser.proofs.CompleteTypes.{is_curly_close}
 use Rattle.c_parser.proofs.CompleteSpecifiers.{operand_no_close}
 use Rattle.c_parser.proofs.CompleteDeclarations.{names_lead}
-use Rattle.c_parser.proofs.Leads.{begins_specifiers, begins_declarator, expression_leads, specifiers_lead, further_leads, specifiers_begin}
+use Rattle.c_parser.proofs.Leads.{is_operand, begins_specifiers, begins_declarator, expression_leads, specifiers_lead, further_leads, specifiers_begin}
 
 -- ---- a name before `:` is no expression that goes on
 
@@ -83,7 +84,7 @@ second_by : (kinds : List TokenKind) (p r q : Place) → Second kinds p r → is
 second_by kinds p r q (inl e) h = inr (subst (λ z. is_colon (mark_at kinds z) ≡ false) e h)
 second_by kinds p r q (inr b) h = inr b
 
-abbrev is_name : Mark → Bool
+abbrev pub is_name : Mark → Bool
 is_name (sign.Name text) = true
 is_name _ = false
 
@@ -261,3 +262,41 @@ statement_leads kinds ends_open from to whole (statements.for_loop p q r s t o f
 statement_leads kinds ends_open from to whole (statements.break_out p a b) = ap close_at a
 statement_leads kinds ends_open from to whole (statements.continue_on p a b) = ap close_at a
 statement_leads kinds ends_open from to whole (statements.return_from p q value a d b) = ap close_at a
+
+abbrev pub is_else : Mark → Bool
+is_else sign.Else = true
+is_else _ = false
+
+abbrev else_at : Option TokenKind → Bool
+else_at k = is_else (mark k)
+
+operand_no_else : (m : Mark) → is_operand m ≡ true → is_else m ≡ false
+operand_no_else sign.Else h = cc
+operand_no_else _ h = refl
+
+pub statement_no_else : (kinds : List TokenKind) (ends_open : Bool) (p q : Place) (x : Statement) → IsStatement kinds ends_open p q x → is_else (mark_at kinds p) ≡ false
+statement_no_else kinds ends_open from to whole (statements.block p q items a d b) = ap else_at a
+statement_no_else kinds ends_open from to whole (statements.empty_statement p a) = ap else_at a
+statement_no_else kinds ends_open from to whole (statements.value_statement p q x d a) = operand_no_else (mark_at kinds p) (expression_leads kinds 0 p q x d)
+statement_no_else kinds ends_open from to whole (statements.label p q o name body a b d) = ap else_at a
+statement_no_else kinds ends_open from to whole (statements.case_label p q r o value body a d b e) = ap else_at a
+statement_no_else kinds ends_open from to whole (statements.default_label p q o body a b d) = ap else_at a
+statement_no_else kinds ends_open from to whole (statements.if_alone p q o branches d) = ap else_at (chain_leads kinds o p q branches None d)
+statement_no_else kinds ends_open from to whole (statements.if_else p q o branches x d) = ap else_at (chain_leads kinds o p q branches (Some x) d)
+statement_no_else kinds ends_open from to whole (statements.switch_on p q r o value body a b d) = ap else_at a
+statement_no_else kinds ends_open from to whole (statements.while_loop p q r o test body a b d) = ap else_at a
+statement_no_else kinds ends_open from to whole (statements.do_loop p q r o body test a d b e c) = ap else_at a
+statement_no_else kinds ends_open from to whole (statements.for_loop p q r s t o first test step body a b c d e f g h) = ap else_at a
+statement_no_else kinds ends_open from to whole (statements.break_out p a b) = ap else_at a
+statement_no_else kinds ends_open from to whole (statements.continue_on p a b) = ap else_at a
+statement_no_else kinds ends_open from to whole (statements.return_from p q value a d b) = ap else_at a
+
+specifiers_no_else : (m : Mark) → begins_specifiers m ≡ true → is_else m ≡ false
+specifiers_no_else sign.Else h = cc
+specifiers_no_else _ h = refl
+
+-- no item of a block begins with `else`
+pub items_no_else : (kinds : List TokenKind) (p q : Place) (xs : List BlockItem) → AreItems kinds p q xs → At kinds q token.RightBrace → is_else (mark_at kinds p) ≡ false
+items_no_else kinds from to whole (statements.no_items p) b = ap else_at b
+items_no_else kinds from to whole (statements.declared_item p q r x xs d e) b = specifiers_no_else (mark_at kinds p) (declaration_leads kinds p q x d)
+items_no_else kinds from to whole (statements.statement_item p q r o x xs d e) b = statement_no_else kinds o p q x d
