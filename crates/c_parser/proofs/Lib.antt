@@ -19,3 +19,4 @@ pub mod CompleteReaders
 pub mod CompleteDeclarations
 pub mod StatementLeads
 pub mod CompleteStatements
+pub mod CompleteText
