@@ -130,7 +130,7 @@ defined_goes kinds p q r s defines list name parameters inner items d f a ih b n
           ∙ then_on (block kinds (declaration kinds n) (statement kinds n) n (enter_with (declare (next r) name defines) (parameters_of parameters))) items s _ k.1
           ∙ curly_closes_on kinds s _ b)
 
-complete_external : (kinds : List TokenKind) (p q : Place) (x : External) → IsExternal kinds p q x → ReachesExternal kinds p q x
+pub complete_external : (kinds : List TokenKind) (p q : Place) (x : External) → IsExternal kinds p q x → ReachesExternal kinds p q x
 complete_external kinds from to whole (grammar.empty_external p a) = λ n e. (omega arith, ap (λ k. rule.external_from kinds n p (mark k)) a)
 complete_external kinds from to whole (grammar.declared_external p q x d) = declared_external_goes kinds p q x d
 complete_external kinds from to whole (grammar.defined_function p q r s defines list name parameters inner items d f a g b) =

@@ -20,3 +20,4 @@ pub mod CompleteDeclarations
 pub mod StatementLeads
 pub mod CompleteStatements
 pub mod CompleteText
+pub mod OneTree

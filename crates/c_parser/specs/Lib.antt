@@ -5,3 +5,4 @@ pub mod ReadTypes
 pub mod Readers
 pub mod ReadStatements
 pub mod ReadText
+pub mod Laws

@@ -1,0 +1,8 @@
+use Rattle.c_parser.proofs.OneTree.{one_tree, reads_what_is_spelled}
+use Rattle.c_parser.proofs.laws.one_tree.Goals as goal
+
+pub returns-clause-one : goal.returns-clause-one
+returns-clause-one c = one_tree
+
+pub returns-clause-read : goal.returns-clause-read
+returns-clause-read c = reads_what_is_spelled
