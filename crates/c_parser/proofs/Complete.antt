@@ -1,7 +1,7 @@
 -- What the tokens spell is what the reader reads.
-use Rattle.std.proofs.Common.{◌≡◌, ℕ, ℤ, zero, suc, ◌+◌, ◌-◌, ◌<◌, ◌≤◌, List, [], ◌∷◌, length, Option, Some, None, Bool, true, false, refl, ap, ◌∙◌, sym, subst, arith, inl, inr}
+use Rattle.std.proofs.Common.{◌≡◌, ℕ, ℤ, zero, suc, ◌+◌, ◌-◌, ◌<◌, ◌≤◌, List, [], ◌∷◌, length, true, false, refl, ap, ◌∙◌, sym, subst, arith, inl, inr}
 use Rattle.std.specs.Prelude.{nat_le, if◌then◌else◌, ◌&&◌, ◌⊎◌}
-use Rattle.std.proofs.lemmas.Bool.{le-leb, lt-leb}
+use Rattle.std.proofs.lemmas.Bool.{le-leb}
 use Rattle.std.proofs.lemmas.Option.{slice_get_within}
 use Rattle.kv_num.specs.declared.types.IntType.{IntType}
 use Rattle.c_model.specs.declared.token.TokenKind.{TokenKind}
@@ -15,15 +15,15 @@ use Rattle.c_tree.specs.declared.expression.AssignOperator.{AssignOperator}
 use Rattle.c_tree.specs.declared.expression.Expression.{Expression}
 use Rattle.c_tree.specs.declared.expression.Expression.TheVariants as tree
 use Rattle.c_tree.specs.declared.expression.TypeName.{TypeName}
-use Rattle.c_tree.specs.Places.{Place, At, next, IsOrdinary, names_type}
+use Rattle.c_tree.specs.Places.{Place, At, next, IsOrdinary}
 use Rattle.c_tree.specs.Signs.{step_sign, unary_sign, binary_sign, assign_sign, level}
 use Rattle.c_tree.specs.Spells as grammar
 use Rattle.c_tree.specs.Spells.{IsExpression, AreAssignments, IsTypeName}
-use Rattle.c_parser.specs.Kinds.{kind_at, Suffix, Infix, Assigns, Asks, Commas, Subscripts, Calls, Selects, Points, Steps, ClosesRound, ClosesSquare, Colons, NoSuffix, suffix, suffix_of, needs, below, goes_on, Prefix, Names, Constants, Texts, Opens, StepsFirst, Operates, Sizes, NoPrefix, prefix, prefix_of, begins_type, is_start, start, start_of}
-use Rattle.c_parser.specs.Reader.{Outcome, Gives, Refuses, and_then, where_round, where_square, where_colon, where_name, Reader, Continues, Lists, Types, items, items_after, call_of, choice_of, suffix_taken, bracketed, sized_by, sized, prefix_taken}
+use Rattle.c_parser.specs.Kinds.{kind_at, Suffix, Infix, Assigns, Asks, Commas, Subscripts, Calls, Selects, Points, Steps, ClosesRound, ClosesSquare, Colons, suffix, suffix_of, needs, below, goes_on, Prefix, Names, Constants, Texts, Opens, StepsFirst, Operates, Sizes, prefix, prefix_of, begins_type, is_start, start, start_of}
+use Rattle.c_parser.specs.Reader.{Gives, Refuses, and_then, where_round, where_square, where_colon, where_name, Reader, Continues, Lists, Types, items, items_after, call_of, choice_of, suffix_taken, bracketed, sized_by, sized, prefix_taken}
 use Rattle.c_parser.specs.Readers.{read, more, types}
-use Rattle.c_parser.proofs.KindLaws.{suffix-binary_sign, suffix-assign_sign, suffix-step_sign, prefix-unary_sign, prefix-step_sign, level_low, level_high, below_needs, ends_unary, ends_conditional, ends_whole}
-use Rattle.c_parser.proofs.Steps.{goes_true, goes_not_below, more_ends, more_goes, read_none, read_on, items_none, items_on}
+use Rattle.c_parser.proofs.KindLaws.{suffix-binary_sign, suffix-assign_sign, suffix-step_sign, prefix-unary_sign, prefix-step_sign, level_high, below_needs, ends_unary, ends_conditional, ends_whole}
+use Rattle.c_parser.proofs.Steps.{goes_true, goes_not_below, more_ends, more_goes, read_none, read_on, items_on}
 
 -- ---- what is shown of each part
 

@@ -1,5 +1,5 @@
 -- What the tokens spell is what the reader of declarations reads.
-use Rattle.std.proofs.Common.{◌≡◌, ℕ, zero, suc, ◌+◌, ◌-◌, ◌<◌, ◌≤◌, List, [], ◌∷◌, length, Option, Some, None, Bool, true, false, refl, ap, ◌∙◌, sym, subst, arith, inl, inr}
+use Rattle.std.proofs.Common.{◌≡◌, ℕ, zero, suc, ◌+◌, ◌<◌, ◌≤◌, List, [], ◌∷◌, Option, Bool, true, false, refl, ap, ◌∙◌, arith, inl, inr}
 use Rattle.std.specs.Prelude.{◌⊎◌}
 use Rattle.c_model.specs.declared.token.TokenKind.{TokenKind}
 use Rattle.c_model.specs.declared.token.TokenKind.TheVariants as token
@@ -12,14 +12,13 @@ use Rattle.c_tree.specs.declared.declaration.Declared.{Declared}
 use Rattle.c_tree.specs.declared.declaration.Declared.TheVariants as declared_node
 use Rattle.c_tree.specs.declared.declaration.Declaration.{Declaration}
 use Rattle.c_tree.specs.Places.{Entry, Place, At, next, declare}
-use Rattle.c_tree.specs.Spells.{AreSpecifiers, IsDecorated}
 use Rattle.c_tree.specs.SpellsStatements as grammar
 use Rattle.c_tree.specs.SpellsStatements.{IsInitialiser, AreParts, IsDeclared, AreDeclared, IsDeclaration}
 use Rattle.c_parser.specs.Kinds.{kind_at, suffix, below, Commas, NoSuffix}
 use Rattle.c_parser.specs.Marks as sign
 use Rattle.c_parser.specs.Marks.{Mark, mark, mark_at, extends_declarator}
-use Rattle.c_parser.specs.Reader.{Outcome, Gives, Refuses, and_then, Reader}
-use Rattle.c_parser.specs.ReadTypes.{ListOf, separated, listed, Specified, Specifies, Titled, Titles}
+use Rattle.c_parser.specs.Reader.{Outcome, Gives, and_then, Reader}
+use Rattle.c_parser.specs.ReadTypes.{ListOf, separated, listed, Specifies, Titled, Titles}
 use Rattle.c_parser.specs.Readers.{specifiers, declarator}
 use Rattle.c_parser.specs.Readers as readers
 use Rattle.c_parser.specs.ReadStatements as rule
@@ -67,9 +66,11 @@ braces_goes kinds p q parts a ih b (suc n) ends e =
     let w = inside kinds p token.LeftBrace a in
     let i = ih n n b (omega (arith, w)) (omega (arith, w)) in
     let lt : p.at + 1 < q.at = i.0 in
-    let list = listed kinds (rule.initialiser kinds n) n in
-    (omega (arith, lt), initialiser_on kinds n p ∙ ap (λ k. rule.initialiser_by kinds (readers.read kinds (suc n)) list p (mark k)) a ∙ then_on (list (next p)) parts q _ i.1
-          ∙ curly_closes_on kinds q _ b)
+    let list = listed kinds (rule.initialiser kinds n) n in (
+      omega (arith, lt),
+      initialiser_on kinds n p ∙ ap (λ k. rule.initialiser_by kinds (readers.read kinds (suc n)) list p (mark k)) a ∙ then_on (list (next p)) parts q _ i.1
+          ∙ curly_closes_on kinds q _ b,
+    )
 
 one_part_goes : (kinds : List TokenKind) (p q : Place) (x : Initialiser) → ReachesInitialiser kinds p q x → ReachesParts kinds p q (x ∷ [])
 one_part_goes kinds p q x ih n zero a e f = absurd (omega arith)
@@ -129,13 +130,23 @@ ReachesDeclared kinds defines p r x = (n : ℕ) → EndsDeclared kinds r → Eno
 plain_declared_goes : (kinds : List TokenKind) (defines : Bool) (p q : Place) (name : List ℕ) (parameters : Option (List Entry)) (inner : Declarator)
     → ReachesDecorated kinds p q (Titles name parameters inner) → ReachesDeclared kinds defines p (declare q name defines) (declared_node.Plain inner)
 plain_declared_goes kinds defines p q name parameters inner ih n (inl a) e =
-    let i = ih n (ap (λ k. extends_declarator (mark k)) a) e in
-    (Titles name parameters inner, q, i.0, i.1, ap (λ k. is_curly (mark k)) a,
-      ap (λ k. rule.declared_by (rule.initialiser kinds n) defines (Titles name parameters inner) q (mark k)) a)
+    let i = ih n (ap (λ k. extends_declarator (mark k)) a) e in (
+      Titles name parameters inner,
+      q,
+      i.0,
+      i.1,
+      ap (λ k. is_curly (mark k)) a,
+      ap (λ k. rule.declared_by (rule.initialiser kinds n) defines (Titles name parameters inner) q (mark k)) a,
+    )
 plain_declared_goes kinds defines p q name parameters inner ih n (inr a) e =
-    let i = ih n (ap (λ k. extends_declarator (mark k)) a) e in
-    (Titles name parameters inner, q, i.0, i.1, ap (λ k. is_curly (mark k)) a,
-      ap (λ k. rule.declared_by (rule.initialiser kinds n) defines (Titles name parameters inner) q (mark k)) a)
+    let i = ih n (ap (λ k. extends_declarator (mark k)) a) e in (
+      Titles name parameters inner,
+      q,
+      i.0,
+      i.1,
+      ap (λ k. is_curly (mark k)) a,
+      ap (λ k. rule.declared_by (rule.initialiser kinds n) defines (Titles name parameters inner) q (mark k)) a,
+    )
 
 ends_initialiser : (kinds : List TokenKind) (q : Place) → EndsDeclared kinds q → EndsInitialiser kinds q
 ends_initialiser kinds q (inl a) = inl a
@@ -148,9 +159,14 @@ initialised_goes kinds defines p q r name parameters inner x ih a jh n ends e =
     let i = ih n (ap (λ k. extends_declarator (mark k)) a) e in
     let lt : p.at < q.at = i.0 in
     let j = jh n (ends_initialiser kinds r ends) (omega (arith, lt)) in
-    let lr : q.at + 1 < r.at = j.0 in
-    (Titles name parameters inner, q, omega (arith, lt, lr), i.1, ap (λ k. is_curly (mark k)) a,
-      ap (λ k. rule.declared_by (rule.initialiser kinds n) defines (Titles name parameters inner) q (mark k)) a ∙ then_on (rule.initialiser kinds n (declare (next q) name defines)) x r _ j.1)
+    let lr : q.at + 1 < r.at = j.0 in (
+      Titles name parameters inner,
+      q,
+      omega (arith, lt, lr),
+      i.1,
+      ap (λ k. is_curly (mark k)) a,
+      ap (λ k. rule.declared_by (rule.initialiser kinds n) defines (Titles name parameters inner) q (mark k)) a ∙ then_on (rule.initialiser kinds n (declare (next q) name defines)) x r _ j.1,
+    )
 
 pub complete_declared : (kinds : List TokenKind) (defines : Bool) (p q : Place) (x : Declared) → IsDeclared kinds defines p q x → ReachesDeclared kinds defines p q x
 complete_declared kinds defines from to whole (grammar.plain_declared p q name parameters inner d) =
@@ -210,9 +226,11 @@ no_names_goes : (kinds : List TokenKind) (p q : Place) (defines : Bool) (list : 
     → ReachesDeclaration kinds p (next q) (record { specifiers = list; names = []; at = q.at })
 no_names_goes kinds p q defines list ih a n e =
     let i = ih n (ap (λ k. follows_specifiers (mark k)) a) e in
-    let lt : p.at < q.at = i.0 in
-    (omega (arith, lt), then_on (specifiers kinds n p) (Specifies defines list) q _ i.1
-          ∙ ap (λ k. rule.declaration_by kinds (rule.names_with kinds n) defines list q (mark k)) a)
+    let lt : p.at < q.at = i.0 in (
+      omega (arith, lt),
+      then_on (specifiers kinds n p) (Specifies defines list) q _ i.1
+          ∙ ap (λ k. rule.declaration_by kinds (rule.names_with kinds n) defines list q (mark k)) a,
+    )
 
 declaration_named : (kinds : List TokenKind) (names : Bool → ListOf Declared) (defines : Bool) (list : List Specifier) (q : Place) (m : Mark) → begins_declarator m ≡ true
     → rule.declaration_by kinds names defines list q m ≡ and_then (names defines q) (rule.declaration_end kinds list)
@@ -226,9 +244,11 @@ some_names_goes kinds p q r defines list names ih l jh a n e =
     let i = ih n (declarator_follows (mark_at kinds q) l) e in
     let lt : p.at < q.at = i.0 in
     let j = jh n n a (omega (arith, lt)) (omega (arith, lt)) in
-    let lr : q.at < r.at = j.0 in
-    (omega (arith, lt, lr), then_on (specifiers kinds n p) (Specifies defines list) q _ i.1
-          ∙ declaration_named kinds (rule.names_with kinds n) defines list q (mark_at kinds q) l ∙ then_on (rule.names_with kinds n defines q) names r _ j.1 ∙ semicolon_on kinds r _ a)
+    let lr : q.at < r.at = j.0 in (
+      omega (arith, lt, lr),
+      then_on (specifiers kinds n p) (Specifies defines list) q _ i.1
+          ∙ declaration_named kinds (rule.names_with kinds n) defines list q (mark_at kinds q) l ∙ then_on (rule.names_with kinds n defines q) names r _ j.1 ∙ semicolon_on kinds r _ a,
+    )
 
 pub complete_declaration : (kinds : List TokenKind) (p q : Place) (x : Declaration) → IsDeclaration kinds p q x → ReachesDeclaration kinds p q x
 complete_declaration kinds from to whole (grammar.no_names p q defines list d a) = no_names_goes kinds p q defines list (complete_specifiers kinds p q defines list d) a

@@ -1,5 +1,5 @@
 -- What the tokens spell is what the reader of declarators and type names reads.
-use Rattle.std.proofs.Common.{◌≡◌, ℕ, zero, suc, ◌+◌, ◌-◌, ◌<◌, ◌≤◌, List, [], ◌∷◌, length, Option, Some, None, Bool, true, false, refl, ap, ◌∙◌, sym, subst, arith, inl, inr}
+use Rattle.std.proofs.Common.{◌≡◌, ℕ, zero, suc, ◌+◌, ◌<◌, ◌≤◌, List, [], ◌∷◌, Option, Some, None, Bool, true, false, refl, ap, ◌∙◌, sym, subst, arith, inl, inr}
 use Rattle.std.specs.Prelude.{◌⊎◌, if◌then◌else◌}
 use Rattle.c_model.specs.declared.token.TokenKind.{TokenKind}
 use Rattle.c_model.specs.declared.token.TokenKind.TheVariants as token
@@ -9,22 +9,21 @@ use Rattle.c_tree.specs.declared.expression.Specifier.{Specifier}
 use Rattle.c_tree.specs.declared.expression.Declarator.{Declarator}
 use Rattle.c_tree.specs.declared.expression.Declarator.TheVariants as declarator_node
 use Rattle.c_tree.specs.declared.expression.Parameter.{Parameter}
-use Rattle.c_tree.specs.declared.expression.TypeName.{TypeName}
 use Rattle.c_tree.specs.Places.{Entry, Place, At, next, declare, enter, leave, first_of}
 use Rattle.c_tree.specs.Spells as grammar
 use Rattle.c_tree.specs.Spells.{AreAttributes, IsUnnamed, AreArrays, nearest, Unnamed, InParameter, InTypeName, may_all_qualify}
-use Rattle.c_parser.specs.Kinds.{kind_at, suffix, below, ClosesSquare, begins_type}
+use Rattle.c_parser.specs.Kinds.{ClosesSquare, begins_type}
 use Rattle.c_parser.specs.Marks as sign
 use Rattle.c_parser.specs.Marks.{Mark, mark, mark_at, extends_declarator}
 use Rattle.c_parser.specs.Reader.{Outcome, Gives, Refuses, and_then, Reader}
 use Rattle.c_parser.specs.ReadTypes as rule
 use Rattle.c_parser.specs.ReadTypes.{attributes, ListOf, Specified, Specifies, Titled, Titles, Takes, Taken, Perhaps, With, Without, Suffixes, qualifiers}
-use Rattle.c_parser.specs.Readers.{read, specifiers, perhaps, declarator, types}
+use Rattle.c_parser.specs.Readers.{read, specifiers, perhaps, declarator}
 use Rattle.c_parser.proofs.Steps.{then_gives}
 use Rattle.c_parser.proofs.TypeSteps.{suffixes_on, parameters_on, arrays_on, unnamed_on, perhaps_on}
 use Rattle.c_parser.proofs.Complete.{Enough, Reaches, ReachesType, exact, below_at}
-use Rattle.c_parser.proofs.Leads.{is_operand, begins_declarator, follows_specifiers, begins_specifiers, is_attribute, is_suffix, declarator_follows, extends_no_suffix, extends_no_attribute, attributes_no_suffix}
-use Rattle.c_parser.proofs.CompleteTypes.{then_on, closes_on, square_closes_on, Inside, inside, ReachesAttributes, ReachesQualifiers, is_qualifier}
+use Rattle.c_parser.proofs.Leads.{is_operand, begins_declarator, follows_specifiers, begins_specifiers, is_suffix, declarator_follows, extends_no_suffix, extends_no_attribute, attributes_no_suffix}
+use Rattle.c_parser.proofs.CompleteTypes.{then_on, closes_on, square_closes_on, inside, ReachesAttributes, ReachesQualifiers, is_qualifier}
 use Rattle.c_parser.proofs.CompleteSpecifiers.{ReachesDecorated, ReachesSpecifiers}
 
 -- ---- what is shown of each part
@@ -110,10 +109,14 @@ array_suffixed kinds p q r name parameters inner size a l jh b n zero e lt f = a
 array_suffixed kinds p q r name parameters inner size a l jh b n (suc c) e lt f =
     let w = inside kinds q token.LeftBracket a in
     let j = exact kinds 2 (next q) r size jh n (omega arith) (below_at kinds 2 r token.RightBracket ClosesSquare b refl (omega arith)) (omega (arith, lt, w)) in
-    let lr : q.at + 1 < r.at = j.0 in
-    (c, omega (arith, lr, w), omega (arith, lt, lr), suffix_step kinds n c (Titles name parameters inner) q token.LeftBracket a
+    let lr : q.at + 1 < r.at = j.0 in (
+      c,
+      omega (arith, lr, w),
+      omega (arith, lt, lr),
+      suffix_step kinds n c (Titles name parameters inner) q token.LeftBracket a
           ∙ array_sized kinds (read kinds n) (suffixes_at kinds n c) name parameters inner q (mark_at kinds (next q)) l ∙ then_on (read kinds n 2 (next q)) size r _ j.1
-          ∙ square_closes_on kinds r _ b)
+          ∙ square_closes_on kinds r _ b,
+    )
 
 pub array_goes : (kinds : List TokenKind) (p q r : Place) (name : List ℕ) (parameters : Option (List Entry)) (inner : Declarator) (size : Expression)
     → ReachesDirect kinds p q (Titles name parameters inner) → At kinds q token.LeftBracket → is_operand (mark_at kinds (next q)) ≡ true → Reaches kinds 2 (next q) r size → At kinds r token.RightBracket
@@ -125,9 +128,13 @@ open_array_suffixed : (kinds : List TokenKind) (p q : Place) (name : List ℕ) (
     → At kinds (next q) token.RightBracket → Suffixed kinds p q (Titles name parameters inner) (next (next q)) (Titles name parameters (declarator_node.OpenArray inner q.at))
 open_array_suffixed kinds p q name parameters inner a b n zero e lt f = absurd (omega arith)
 open_array_suffixed kinds p q name parameters inner a b n (suc c) e lt f =
-    let w = inside kinds q token.LeftBracket a in
-    (c, omega (arith, w), omega (arith, lt), suffix_step kinds n c (Titles name parameters inner) q token.LeftBracket a
-          ∙ ap (λ k. rule.array_by kinds (read kinds n) (suffixes_at kinds n c) (Titles name parameters inner) q (mark k)) b)
+    let w = inside kinds q token.LeftBracket a in (
+      c,
+      omega (arith, w),
+      omega (arith, lt),
+      suffix_step kinds n c (Titles name parameters inner) q token.LeftBracket a
+          ∙ ap (λ k. rule.array_by kinds (read kinds n) (suffixes_at kinds n c) (Titles name parameters inner) q (mark k)) b,
+    )
 
 pub open_array_goes : (kinds : List TokenKind) (p q : Place) (name : List ℕ) (parameters : Option (List Entry)) (inner : Declarator) → ReachesDirect kinds p q (Titles name parameters inner)
     → At kinds q token.LeftBracket → At kinds (next q) token.RightBracket
@@ -140,9 +147,13 @@ function_empty_suffixed : (kinds : List TokenKind) (p q : Place) (name : List �
     → Suffixed kinds p q (Titles name parameters inner) (next (next q)) (Titles name (nearest parameters []) (declarator_node.Function inner [] false q.at))
 function_empty_suffixed kinds p q name parameters inner a b n zero e lt f = absurd (omega arith)
 function_empty_suffixed kinds p q name parameters inner a b n (suc c) e lt f =
-    let w = inside kinds q token.LeftParenthesis a in
-    (c, omega (arith, w), omega (arith, lt), suffix_step kinds n c (Titles name parameters inner) q token.LeftParenthesis a
-          ∙ ap (λ k. rule.function_by kinds (rule.parameters kinds (parameter_at kinds n) n) (suffixes_at kinds n c) (Titles name parameters inner) q (mark k)) b)
+    let w = inside kinds q token.LeftParenthesis a in (
+      c,
+      omega (arith, w),
+      omega (arith, lt),
+      suffix_step kinds n c (Titles name parameters inner) q token.LeftParenthesis a
+          ∙ ap (λ k. rule.function_by kinds (rule.parameters kinds (parameter_at kinds n) n) (suffixes_at kinds n c) (Titles name parameters inner) q (mark k)) b,
+    )
 
 pub function_empty_goes : (kinds : List TokenKind) (p q : Place) (name : List ℕ) (parameters : Option (List Entry)) (inner : Declarator) → ReachesDirect kinds p q (Titles name parameters inner)
     → At kinds q token.LeftParenthesis → At kinds (next q) token.RightParenthesis
@@ -165,10 +176,14 @@ function_suffixed kinds p q r name parameters inner list variadic a l jh b n (su
     let w = inside kinds q token.LeftParenthesis a in
     let j = jh n n b (omega (arith, lt, w)) (omega (arith, lt, w)) in
     let lr : q.at + 1 < r.at = j.0 in
-    let all = rule.parameters kinds (parameter_at kinds n) n in
-    (c, omega (arith, lr, w), omega (arith, lt, lr), suffix_step kinds n c (Titles name parameters inner) q token.LeftParenthesis a
+    let all = rule.parameters kinds (parameter_at kinds n) n in (
+      c,
+      omega (arith, lr, w),
+      omega (arith, lt, lr),
+      suffix_step kinds n c (Titles name parameters inner) q token.LeftParenthesis a
           ∙ function_listed kinds all (suffixes_at kinds n c) name parameters inner q (mark_at kinds (next q)) l
-          ∙ then_on (all (enter (next q))) (Taken list variadic) r _ j.1 ∙ closes_on kinds r _ b)
+          ∙ then_on (all (enter (next q))) (Taken list variadic) r _ j.1 ∙ closes_on kinds r _ b,
+    )
 
 pub function_goes : (kinds : List TokenKind) (p q r : Place) (name : List ℕ) (parameters : Option (List Entry)) (inner : Declarator) (list : List Parameter) (variadic : Bool)
     → ReachesDirect kinds p q (Titles name parameters inner) → At kinds q token.LeftParenthesis → begins_specifiers (mark_at kinds (next q)) ≡ true
@@ -281,9 +296,11 @@ parameter_pointer_goes kinds p q r list inner a ih may d jh (suc n) ends e =
     let i = ih n (unnamed_no_qualifier kinds InParameter q r inner d ends) (omega (arith, w)) in
     let le : p.at + 1 ≤ q.at = i.0 in
     let j = jh n ends (omega (arith, le, w)) in
-    let lr : q.at ≤ r.at = j.0 in
-    (omega (arith, le, lr), perhaps_at kinds n p token.Star a ∙ then_on (qualifiers kinds n (next p)) list q _ i.1 ∙ then_on (perhaps kinds n q) (Without inner) r _ j.1
-          ∙ ap (λ b. if b then Gives (Without (declarator_node.Pointer list inner p.at)) r else Refuses) may)
+    let lr : q.at ≤ r.at = j.0 in (
+      omega (arith, le, lr),
+      perhaps_at kinds n p token.Star a ∙ then_on (qualifiers kinds n (next p)) list q _ i.1 ∙ then_on (perhaps kinds n q) (Without inner) r _ j.1
+          ∙ ap (λ b. if b then Gives (Without (declarator_node.Pointer list inner p.at)) r else Refuses) may,
+    )
 
 type_pointer_goes : (kinds : List TokenKind) (p q r : Place) (list : List Qualifier) (inner : Declarator) → At kinds p token.Star → ReachesQualifiers kinds (next p) q list
     → may_all_qualify InTypeName list ≡ true → IsUnnamed kinds InTypeName q r inner → ReachesUnnamed kinds InTypeName q r inner
@@ -295,11 +312,13 @@ type_pointer_goes kinds p q r list inner a ih may d jh n (suc c) b e f =
     let le : p.at + 1 ≤ q.at = i.0 in
     let j = jh n c b (omega (arith, le)) (omega (arith, le, w)) in
     let lr : q.at ≤ r.at = j.0 in
-    let rd = read kinds n in
-    (omega (arith, le, lr), unnamed_on kinds rd c p ∙ ap (λ k. rule.unnamed_by (rule.arrays kinds rd (suc c)) (qualifiers kinds c) (rule.unnamed kinds rd c) p (mark k)) a
+    let rd = read kinds n in (
+      omega (arith, le, lr),
+      unnamed_on kinds rd c p ∙ ap (λ k. rule.unnamed_by (rule.arrays kinds rd (suc c)) (qualifiers kinds c) (rule.unnamed kinds rd c) p (mark k)) a
           ∙ then_on (qualifiers kinds c (next p)) list q _ i.1
           ∙ ap (λ o. if o then and_then (rule.unnamed kinds rd c q) (λ x s. Gives (declarator_node.Pointer list x p.at) s) else Refuses) may
-          ∙ then_on (rule.unnamed kinds rd c q) inner r _ j.1)
+          ∙ then_on (rule.unnamed kinds rd c q) inner r _ j.1,
+    )
 
 pub unnamed_pointer_goes : (kinds : List TokenKind) (unnamed : Unnamed) (p q r : Place) (list : List Qualifier) (inner : Declarator) → At kinds p token.Star → ReachesQualifiers kinds (next p) q list
     → may_all_qualify unnamed list ≡ true → IsUnnamed kinds unnamed q r inner → ReachesUnnamed kinds unnamed q r inner
@@ -341,9 +360,11 @@ named_parameter_goes kinds p q r defines list name parameters inner ih l jh n en
     let lt : p.at < q.at = i.0 in
     let j = jh n (ends_declarator kinds r ends) (omega (arith, lt)) in
     let lr : q.at < r.at = j.0 in
-    let t = then_gives (perhaps kinds n q) (rule.decorated_by (attributes kinds n)) (Titles name parameters inner) r j.1 in
-    (omega (arith, lt, lr), then_on (specifiers kinds n p) (Specifies defines list) q _ i.1 ∙ then_on (perhaps kinds n q) t.0 t.1 _ t.2
-          ∙ decorated_perhaps (attributes kinds n) list name parameters inner t.0 t.1 r t.3)
+    let t = then_gives (perhaps kinds n q) (rule.decorated_by (attributes kinds n)) (Titles name parameters inner) r j.1 in (
+      omega (arith, lt, lr),
+      then_on (specifiers kinds n p) (Specifies defines list) q _ i.1 ∙ then_on (perhaps kinds n q) t.0 t.1 _ t.2
+          ∙ decorated_perhaps (attributes kinds n) list name parameters inner t.0 t.1 r t.3,
+    )
 
 pub unnamed_parameter_goes : (kinds : List TokenKind) (p q r : Place) (defines : Bool) (list : List Specifier) (inner : Declarator) → ReachesSpecifiers kinds p q defines list
     → IsUnnamed kinds InParameter q r inner → ReachesUnnamed kinds InParameter q r inner → ReachesParameter kinds p r (record { specifiers = list; declarator = inner })
@@ -367,9 +388,11 @@ variadic_goes kinds p q x ih b d n zero a e f = absurd (omega arith)
 variadic_goes kinds p q x ih b d n (suc c) a e f =
     let i = ih n (inl b) e in
     let lt : p.at < q.at = i.0 in
-    let more = rule.parameters kinds (parameter_at kinds n) c in
-    (omega (arith, lt), parameters_on kinds (parameter_at kinds n) c p ∙ then_on (parameter_at kinds n p) x q _ i.1 ∙ ap (λ k. rule.parameters_after kinds more x q (mark k)) b
-          ∙ ap (λ k. rule.parameters_comma more x (next q) (mark k)) d)
+    let more = rule.parameters kinds (parameter_at kinds n) c in (
+      omega (arith, lt),
+      parameters_on kinds (parameter_at kinds n) c p ∙ then_on (parameter_at kinds n p) x q _ i.1 ∙ ap (λ k. rule.parameters_after kinds more x q (mark k)) b
+          ∙ ap (λ k. rule.parameters_comma more x (next q) (mark k)) d,
+    )
 
 parameters_other : (more : Place → Outcome Takes) (x : Parameter) (q : Place) (m : Mark) → begins_specifiers m ≡ true → rule.parameters_comma more x q m ≡ and_then (more q) (rule.first_taken x)
 parameters_other more x q sign.Ellipsis h = cc
@@ -384,9 +407,11 @@ more_parameters_goes kinds p q r x list variadic ih b l jh n (suc c) a e f =
     let w = inside kinds q token.Comma b in
     let j = jh n c a (omega (arith, lt)) (omega (arith, lt, w)) in
     let lr : q.at + 1 < r.at = j.0 in
-    let more = rule.parameters kinds (parameter_at kinds n) c in
-    (omega (arith, lt, lr), parameters_on kinds (parameter_at kinds n) c p ∙ then_on (parameter_at kinds n p) x q _ i.1 ∙ ap (λ k. rule.parameters_after kinds more x q (mark k)) b
-          ∙ parameters_other more x (next q) (mark_at kinds (next q)) l ∙ then_on (more (next q)) (Taken list variadic) r _ j.1)
+    let more = rule.parameters kinds (parameter_at kinds n) c in (
+      omega (arith, lt, lr),
+      parameters_on kinds (parameter_at kinds n) c p ∙ then_on (parameter_at kinds n p) x q _ i.1 ∙ ap (λ k. rule.parameters_after kinds more x q (mark k)) b
+          ∙ parameters_other more x (next q) (mark_at kinds (next q)) l ∙ then_on (more (next q)) (Taken list variadic) r _ j.1,
+    )
 
 -- ---- type names
 
@@ -400,9 +425,13 @@ array_step kinds n zero q r inner size a jh b e f = absurd (omega arith)
 array_step kinds n (suc c) q r inner size a jh b e f =
     let w = inside kinds q token.LeftBracket a in
     let j = exact kinds 2 (next q) r size jh n (omega arith) (below_at kinds 2 r token.RightBracket ClosesSquare b refl (omega arith)) (omega arith) in
-    let lr : q.at + 1 < r.at = j.0 in
-    (c, omega (arith, lr, w), omega (arith, lr), arrays_on kinds (read kinds n) c inner q ∙ ap (λ k. rule.arrays_by kinds (read kinds n) (rule.arrays kinds (read kinds n) c) inner q (mark k)) a
-          ∙ then_on (read kinds n 2 (next q)) size r _ j.1 ∙ square_closes_on kinds r _ b)
+    let lr : q.at + 1 < r.at = j.0 in (
+      c,
+      omega (arith, lr, w),
+      omega (arith, lr),
+      arrays_on kinds (read kinds n) c inner q ∙ ap (λ k. rule.arrays_by kinds (read kinds n) (rule.arrays kinds (read kinds n) c) inner q (mark k)) a
+          ∙ then_on (read kinds n 2 (next q)) size r _ j.1 ∙ square_closes_on kinds r _ b,
+    )
 
 pub unnamed_array_goes : (kinds : List TokenKind) (p q r : Place) (inner : Declarator) (size : Expression) → ReachesArrays kinds p q inner → At kinds q token.LeftBracket
     → Reaches kinds 2 (next q) r size → At kinds r token.RightBracket → ReachesArrays kinds p (next r) (declarator_node.Array inner size q.at)
@@ -445,9 +474,12 @@ unnamed_arrays_goes kinds p q inner d ih n (suc c) b e f =
 
 pub type_name_goes : (kinds : List TokenKind) (p q r : Place) (defines : Bool) (list : List Specifier) (inner : Declarator) → begins_type kinds p ≡ true → ReachesSpecifiers kinds p q defines list
     → IsUnnamed kinds InTypeName q r inner → ReachesUnnamed kinds InTypeName q r inner → ReachesType kinds p r (record { specifiers = list; declarator = inner })
-type_name_goes kinds p q r defines list inner b ih d jh = (b, λ n a e.
-    let i = ih n (unnamed_follows kinds InTypeName q r inner d (inr a)) e in
-    let lt : p.at < q.at = i.0 in
-    let j = jh n n a (omega (arith, lt)) (omega (arith, lt)) in
-    let lr : q.at ≤ r.at = j.0 in
-    (omega (arith, lt, lr), then_on (specifiers kinds n p) (Specifies defines list) q _ i.1 ∙ then_on (rule.unnamed kinds (read kinds n) n q) inner r _ j.1))
+type_name_goes kinds p q r defines list inner b ih d jh = (
+  b,
+  λ n a e.
+      let i = ih n (unnamed_follows kinds InTypeName q r inner d (inr a)) e in
+      let lt : p.at < q.at = i.0 in
+      let j = jh n n a (omega (arith, lt)) (omega (arith, lt)) in
+      let lr : q.at ≤ r.at = j.0 in
+      (omega (arith, lt, lr), then_on (specifiers kinds n p) (Specifies defines list) q _ i.1 ∙ then_on (rule.unnamed kinds (read kinds n) n q) inner r _ j.1),
+)

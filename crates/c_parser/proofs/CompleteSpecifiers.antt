@@ -1,5 +1,5 @@
 -- What the tokens spell is what the reader of specifiers reads: members, constants, specifiers.
-use Rattle.std.proofs.Common.{◌≡◌, ℕ, zero, suc, ◌+◌, ◌-◌, ◌<◌, ◌≤◌, List, [], ◌∷◌, length, Option, Some, None, Bool, true, false, refl, ap, ◌∙◌, sym, subst, arith, inl, inr}
+use Rattle.std.proofs.Common.{◌≡◌, ℕ, zero, suc, ◌+◌, ◌<◌, ◌≤◌, List, [], ◌∷◌, Option, Some, None, Bool, true, false, refl, ap, ◌∙◌, sym, subst, arith, inl, inr}
 use Rattle.std.specs.Prelude.{◌⊎◌, if◌then◌else◌}
 use Rattle.kv_num.specs.declared.types.IntType.{IntType}
 use Rattle.c_model.specs.declared.token.TokenKind.{TokenKind}
@@ -17,7 +17,7 @@ use Rattle.c_tree.specs.declared.expression.Member.TheVariants as member_node
 use Rattle.c_tree.specs.declared.expression.EnumConstant.{EnumConstant}
 use Rattle.c_tree.specs.declared.expression.EnumConstant.TheVariants as constant_node
 use Rattle.c_tree.specs.declared.expression.Declarator.{Declarator}
-use Rattle.c_tree.specs.Places.{Entry, Place, At, next, names_type, declare, IsTypedefName}
+use Rattle.c_tree.specs.Places.{Entry, Place, At, next, declare, IsTypedefName}
 use Rattle.c_tree.specs.Signs.{storage_sign, function_sign, qualifier_sign, base_sign}
 use Rattle.c_tree.specs.Spells as grammar
 use Rattle.c_tree.specs.Spells.{AreAttributes, IsTag, EndsSpecifiers, Role, Types, Modifies, storage_role, types_now, defines_now}
@@ -94,13 +94,17 @@ member_other kinds rd dc p _ h = refl
 pub plain_member_goes : (kinds : List TokenKind) (p q : Place) (name : List ℕ) (parameters : Option (List Entry)) (inner : Declarator) → begins_declarator (mark_at kinds p) ≡ true
     → ReachesDecorated kinds p q (Titles name parameters inner) → ReachesMember kinds p q (member_node.Plain inner)
 plain_member_goes kinds p q name parameters inner l ih n (inl a) e =
-    let i = ih n (ap (λ k. extends_declarator (mark k)) a) e in
-    (i.0, member_other kinds (read kinds n) (declarator kinds n) p (mark_at kinds p) l ∙ then_on (declarator kinds n p) (Titles name parameters inner) q _ i.1
-          ∙ ap (λ k. rule.member_after (read kinds n) (Titles name parameters inner) q (mark k)) a)
+    let i = ih n (ap (λ k. extends_declarator (mark k)) a) e in (
+      i.0,
+      member_other kinds (read kinds n) (declarator kinds n) p (mark_at kinds p) l ∙ then_on (declarator kinds n p) (Titles name parameters inner) q _ i.1
+          ∙ ap (λ k. rule.member_after (read kinds n) (Titles name parameters inner) q (mark k)) a,
+    )
 plain_member_goes kinds p q name parameters inner l ih n (inr a) e =
-    let i = ih n (ap (λ k. extends_declarator (mark k)) a) e in
-    (i.0, member_other kinds (read kinds n) (declarator kinds n) p (mark_at kinds p) l ∙ then_on (declarator kinds n p) (Titles name parameters inner) q _ i.1
-          ∙ ap (λ k. rule.member_after (read kinds n) (Titles name parameters inner) q (mark k)) a)
+    let i = ih n (ap (λ k. extends_declarator (mark k)) a) e in (
+      i.0,
+      member_other kinds (read kinds n) (declarator kinds n) p (mark_at kinds p) l ∙ then_on (declarator kinds n p) (Titles name parameters inner) q _ i.1
+          ∙ ap (λ k. rule.member_after (read kinds n) (Titles name parameters inner) q (mark k)) a,
+    )
 
 member_below : (kinds : List TokenKind) (q : Place) → EndsMember kinds q → below (suffix (kind_at kinds q)) ≤ 2
 member_below kinds q (inl a) = below_at kinds 2 q token.Comma Commas a refl (omega arith)
@@ -113,9 +117,11 @@ bit_field_goes kinds p q r name parameters inner width l ih a jh n ends e =
     let i = ih n (ap (λ k. extends_declarator (mark k)) a) e in
     let lt : p.at < q.at = i.0 in
     let j = exact kinds 2 (next q) r width jh n (omega arith) (member_below kinds r ends) (omega (arith, lt)) in
-    let lr : q.at + 1 < r.at = j.0 in
-    (omega (arith, lt, lr), member_other kinds (read kinds n) (declarator kinds n) p (mark_at kinds p) l ∙ then_on (declarator kinds n p) (Titles name parameters inner) q _ i.1
-          ∙ ap (λ k. rule.member_after (read kinds n) (Titles name parameters inner) q (mark k)) a ∙ then_on (read kinds n 2 (next q)) width r _ j.1)
+    let lr : q.at + 1 < r.at = j.0 in (
+      omega (arith, lt, lr),
+      member_other kinds (read kinds n) (declarator kinds n) p (mark_at kinds p) l ∙ then_on (declarator kinds n p) (Titles name parameters inner) q _ i.1
+          ∙ ap (λ k. rule.member_after (read kinds n) (Titles name parameters inner) q (mark k)) a ∙ then_on (read kinds n 2 (next q)) width r _ j.1,
+    )
 
 pub unnamed_bit_field_goes : (kinds : List TokenKind) (p q : Place) (width : Expression) → At kinds p token.Colon → Reaches kinds 2 (next p) q width
     → ReachesMember kinds p q (member_node.UnnamedBitField width p.at)
@@ -146,9 +152,11 @@ more_members_goes kinds p q r x xs ih a jh n (suc c) b e f =
 pub no_lines_goes : (kinds : List TokenKind) (p : Place) → ReachesLines kinds p p []
 no_lines_goes kinds p n zero a e f = absurd (omega arith)
 no_lines_goes kinds p n (suc c) a e f =
-    let members = separated kinds (member_at kinds n) n in
-    (omega arith, lines_on kinds (specifiers kinds n) members c p
-          ∙ ap (λ k. rule.lines_by kinds (specifiers kinds n) members (rule.lines kinds (specifiers kinds n) members c) p (mark k)) a)
+    let members = separated kinds (member_at kinds n) n in (
+      omega arith,
+      lines_on kinds (specifiers kinds n) members c p
+          ∙ ap (λ k. rule.lines_by kinds (specifiers kinds n) members (rule.lines kinds (specifiers kinds n) members c) p (mark k)) a,
+    )
 
 lines_other : (kinds : List TokenKind) (sp : ReadsSpecifiers) (members : ListOf Member) (more : ListOf MemberLine) (p : Place) (m : Mark) → begins_specifiers m ≡ true
     → rule.lines_by kinds sp members more p m ≡ and_then (sp p) (rule.line_after kinds members more)
@@ -168,9 +176,11 @@ more_lines_goes kinds p q r s defines list xs lines l ih g jh a kh n (suc c) b e
     let lr : q.at < r.at = j.0 in
     let w = inside kinds r token.Semicolon a in
     let k = kh n c b (omega (arith, lt, lr)) (omega (arith, lt, lr, w)) in
-    let ls : r.at + 1 ≤ s.at = k.0 in
-    (omega (arith, lt, lr, ls), lines_on kinds (specifiers kinds n) members c p ∙ lines_other kinds (specifiers kinds n) members further p (mark_at kinds p) l
-          ∙ then_on (specifiers kinds n p) (Specifies defines list) q _ i.1 ∙ then_on (members q) xs r _ j.1 ∙ semicolon_on kinds r _ a ∙ then_on (further (next r)) lines s _ k.1)
+    let ls : r.at + 1 ≤ s.at = k.0 in (
+      omega (arith, lt, lr, ls),
+      lines_on kinds (specifiers kinds n) members c p ∙ lines_other kinds (specifiers kinds n) members further p (mark_at kinds p) l
+          ∙ then_on (specifiers kinds n p) (Specifies defines list) q _ i.1 ∙ then_on (members q) xs r _ j.1 ∙ semicolon_on kinds r _ a ∙ then_on (further (next r)) lines s _ k.1,
+    )
 
 -- ---- enumeration constants
 
@@ -189,9 +199,11 @@ pub valued_constant_goes : (kinds : List TokenKind) (p q : Place) (text : List �
     → Reaches kinds 2 (next (next p)) q value → ReachesConstant kinds p (declare q text false) (constant_node.Valued text value p.at)
 valued_constant_goes kinds p q text value a b jh n ends e =
     let j = exact kinds 2 (next (next p)) q value jh n (omega arith) (constant_below kinds q ends) (omega arith) in
-    let lr : p.at + 1 + 1 < q.at = j.0 in
-    (omega (arith, lr), ap (λ k. rule.constant_by kinds (read kinds n) p (mark k)) a ∙ ap (λ k. rule.constant_after (read kinds n) text p (mark k)) b
-          ∙ then_on (read kinds n 2 (next (next p))) value q _ j.1)
+    let lr : p.at + 1 + 1 < q.at = j.0 in (
+      omega (arith, lr),
+      ap (λ k. rule.constant_by kinds (read kinds n) p (mark k)) a ∙ ap (λ k. rule.constant_after (read kinds n) text p (mark k)) b
+          ∙ then_on (read kinds n 2 (next (next p))) value q _ j.1,
+    )
 
 pub one_constant_goes : (kinds : List TokenKind) (p q : Place) (x : EnumConstant) → ReachesConstant kinds p q x → ReachesConstants kinds p q (x ∷ [])
 one_constant_goes kinds p q x ih n zero a e f = absurd (omega arith)
@@ -252,9 +264,12 @@ type_word_goes kinds typed p kind a n f e = (omega arith, inside kinds p (token.
 
 pub typedef_goes : (kinds : List TokenKind) (p : Place) (text : List ℕ) → At kinds p (token.Name text) → IsTypedefName p text
     → ReachesSpecifier kinds false p (next p) Types (specifier_node.TypedefName text p.at)
-typedef_goes kinds p text a b n f e =
-    (omega arith, inside kinds p (token.Name text) a, ap (λ k. ByMark kinds n false p (mark k)) a
-          ∙ ap (λ c. if c then Gives (Plays Types (specifier_node.TypedefName text p.at)) (next p) else Refuses) b)
+typedef_goes kinds p text a b n f e = (
+  omega arith,
+  inside kinds p (token.Name text) a,
+  ap (λ k. ByMark kinds n false p (mark k)) a
+      ∙ ap (λ c. if c then Gives (Plays Types (specifier_node.TypedefName text p.at)) (next p) else Refuses) b,
+)
 
 -- the word and the tag
 abbrev StructHeaded : List TokenKind → Place → Place → Option (List ℕ) → Type 0
@@ -290,9 +305,12 @@ struct_plain kinds body p tag q _ h = refl
 
 pub struct_tag_goes : (kinds : List TokenKind) (typed : Bool) (p : Place) (tag : List ℕ) → At kinds p token.Struct → At kinds (next p) (token.Name tag)
     → ReachesSpecifier kinds typed p (next (next p)) Types (specifier_node.StructTag tag p.at)
-struct_tag_goes kinds typed p tag a b n f e =
-    (omega arith, inside kinds p token.Struct a, ap (λ k. ByMark kinds n typed p (mark k)) a ∙ ap (λ k. rule.struct_by kinds (struct_at kinds n) p (mark k)) b
-          ∙ struct_plain kinds (struct_at kinds n) p tag (next (next p)) (mark_at kinds (next (next p))) f)
+struct_tag_goes kinds typed p tag a b n f e = (
+  omega arith,
+  inside kinds p token.Struct a,
+  ap (λ k. ByMark kinds n typed p (mark k)) a ∙ ap (λ k. rule.struct_by kinds (struct_at kinds n) p (mark k)) b
+      ∙ struct_plain kinds (struct_at kinds n) p tag (next (next p)) (mark_at kinds (next (next p))) f,
+)
 
 abbrev EnumHeaded : List TokenKind → Place → Place → Option (List ℕ) → Type 0
 EnumHeaded kinds p q tag = (p.at + 1 ≤ q.at) × ((body : ListOf EnumConstant) → rule.enum_by kinds body p (mark_at kinds (next p)) ≡ rule.enum_body kinds body p tag q)
@@ -327,9 +345,12 @@ enum_plain kinds body p tag q _ h = refl
 
 pub enum_tag_goes : (kinds : List TokenKind) (typed : Bool) (p : Place) (tag : List ℕ) → At kinds p token.Enum → At kinds (next p) (token.Name tag)
     → ReachesSpecifier kinds typed p (next (next p)) Types (specifier_node.EnumTag tag p.at)
-enum_tag_goes kinds typed p tag a b n f e =
-    (omega arith, inside kinds p token.Enum a, ap (λ k. ByMark kinds n typed p (mark k)) a ∙ ap (λ k. rule.enum_by kinds (enum_at kinds n) p (mark k)) b
-          ∙ enum_plain kinds (enum_at kinds n) p tag (next (next p)) (mark_at kinds (next (next p))) f)
+enum_tag_goes kinds typed p tag a b n f e = (
+  omega arith,
+  inside kinds p token.Enum a,
+  ap (λ k. ByMark kinds n typed p (mark k)) a ∙ ap (λ k. rule.enum_by kinds (enum_at kinds n) p (mark k)) b
+      ∙ enum_plain kinds (enum_at kinds n) p tag (next (next p)) (mark_at kinds (next (next p))) f,
+)
 
 -- ---- specifiers
 
@@ -343,9 +364,11 @@ last_specifier_goes kinds typed p q r role x ih d jh ends n (suc c) f e g =
     let j = jh c (follows_no_attribute (mark_at kinds r) f) (omega (arith, lt, w)) in
     let le : q.at ≤ r.at = j.0 in
     let now = types_now typed role in
-    let go = rule.further kinds (struct_at kinds n) (enum_at kinds n) c in
-    (omega (arith, lt, le), further_on kinds (struct_at kinds n) (enum_at kinds n) c typed p ∙ then_on (ByMark kinds n typed p (mark_at kinds p)) (Plays role x) q _ i.2
-          ∙ then_on (attributes kinds c q) tt r _ j.1 ∙ ap (rule.further_by go now role x r) (no_further kinds now r f ends))
+    let go = rule.further kinds (struct_at kinds n) (enum_at kinds n) c in (
+      omega (arith, lt, le),
+      further_on kinds (struct_at kinds n) (enum_at kinds n) c typed p ∙ then_on (ByMark kinds n typed p (mark_at kinds p)) (Plays role x) q _ i.2
+          ∙ then_on (attributes kinds c q) tt r _ j.1 ∙ ap (rule.further_by go now role x r) (no_further kinds now r f ends),
+    )
 
 pub more_specifiers_goes : (kinds : List TokenKind) (typed : Bool) (p q r s : Place) (role : Role) (defines : Bool) (x : Specifier) (list : List Specifier) → ReachesSpecifier kinds typed p q role x
     → AreAttributes kinds q r → ReachesAttributes kinds q r → begins_specifiers (mark_at kinds r) ≡ true → is_attribute (mark_at kinds r) ≡ false
@@ -361,9 +384,11 @@ more_specifiers_goes kinds typed p q r s role defines x list ih d jh l plain goe
     let k = kh n c f (omega (arith, lt, le)) (omega (arith, lt, le, w)) in
     let ls : r.at < s.at = k.0 in
     let now = types_now typed role in
-    let go = rule.further kinds (struct_at kinds n) (enum_at kinds n) c in
-    (omega (arith, lt, le, ls), further_on kinds (struct_at kinds n) (enum_at kinds n) c typed p ∙ then_on (ByMark kinds n typed p (mark_at kinds p)) (Plays role x) q _ i.2
-          ∙ then_on (attributes kinds c q) tt r _ j.1 ∙ ap (rule.further_by go now role x r) goes ∙ then_on (go now r) (Specifies defines list) s _ k.1)
+    let go = rule.further kinds (struct_at kinds n) (enum_at kinds n) c in (
+      omega (arith, lt, le, ls),
+      further_on kinds (struct_at kinds n) (enum_at kinds n) c typed p ∙ then_on (ByMark kinds n typed p (mark_at kinds p)) (Plays role x) q _ i.2
+          ∙ then_on (attributes kinds c q) tt r _ j.1 ∙ ap (rule.further_by go now role x r) goes ∙ then_on (go now r) (Specifies defines list) s _ k.1,
+    )
 
 pub all_specifiers_goes : (kinds : List TokenKind) (p q r : Place) (defines : Bool) (list : List Specifier) → ReachesAttributes kinds p q → is_attribute (mark_at kinds q) ≡ false
     → ReachesFurther kinds false q r defines list → ReachesSpecifiers kinds p r defines list

@@ -1,6 +1,5 @@
 -- What the tokens spell is what the reader of statements reads.
-use Rattle.std.proofs.Common.{◌≡◌, ℕ, zero, suc, ◌+◌, ◌-◌, ◌<◌, ◌≤◌, List, [], ◌∷◌, length, Option, Some, None, Bool, true, false, refl, ap, ◌∙◌, sym, subst, arith, inl, inr}
-use Rattle.std.specs.Prelude.{◌⊎◌}
+use Rattle.std.proofs.Common.{◌≡◌, ℕ, zero, suc, ◌+◌, ◌<◌, ◌≤◌, List, [], ◌∷◌, length, Option, Some, None, Bool, true, false, refl, ap, ◌∙◌, sym, subst, arith, inl, inr}
 use Rattle.c_model.specs.declared.token.TokenKind.{TokenKind}
 use Rattle.c_model.specs.declared.token.TokenKind.TheVariants as token
 use Rattle.c_tree.specs.declared.expression.Expression.{Expression}
@@ -11,7 +10,6 @@ use Rattle.c_tree.specs.declared.statement.Branch.{Branch}
 use Rattle.c_tree.specs.declared.statement.BlockItem.{BlockItem}
 use Rattle.c_tree.specs.declared.statement.BlockItem.TheVariants as item_node
 use Rattle.c_tree.specs.declared.statement.ForStart.{ForStart}
-use Rattle.c_tree.specs.declared.statement.ForStart.TheVariants as start_node
 use Rattle.c_tree.specs.Places.{Place, At, next, enter, leave}
 use Rattle.c_tree.specs.Spells.{IsExpression}
 use Rattle.c_tree.specs.SpellsStatements as grammar
@@ -19,7 +17,7 @@ use Rattle.c_tree.specs.SpellsStatements.{IsDeclaration, IsOptional, IsForStart,
 use Rattle.c_parser.specs.Kinds.{kind_at, suffix, below, ClosesRound, Colons, NoSuffix, begins_type}
 use Rattle.c_parser.specs.Marks as sign
 use Rattle.c_parser.specs.Marks.{Mark, NoMark, mark, mark_at}
-use Rattle.c_parser.specs.Reader.{Outcome, Gives, Refuses, and_then, Reader}
+use Rattle.c_parser.specs.Reader.{Outcome, Gives, and_then, Reader}
 use Rattle.c_parser.specs.ReadTypes.{ListOf}
 use Rattle.c_parser.specs.Readers.{read}
 use Rattle.c_parser.specs.ReadStatements as rule
@@ -30,7 +28,7 @@ use Rattle.c_parser.proofs.Complete.{Enough, exact, below_at, leads}
 use Rattle.c_parser.proofs.Leads.{is_operand, begins_specifiers, expression_leads}
 use Rattle.c_parser.proofs.CompleteTypes.{then_on, opens_on, closes_on, curly_closes_on, semicolon_on, inside, is_curly_close}
 use Rattle.c_parser.proofs.CompleteReaders.{complete}
-use Rattle.c_parser.proofs.CompleteDeclarations.{ReachesDeclaration, complete_declaration}
+use Rattle.c_parser.proofs.CompleteDeclarations.{complete_declaration}
 use Rattle.c_parser.proofs.StatementLeads.{Second, is_name, expression_second, declaration_declares, declaration_leads, declaration_begins, chain_leads, statement_not_declared, statement_leads, is_else, items_no_else}
 
 colon_on : {B : Type 0} (kinds : List TokenKind) (p : Place) (o : Outcome B) → At kinds p token.Colon → rule.where_colon (mark_at kinds p) o ≡ o
@@ -92,15 +90,19 @@ start_goes kinds n from to all (grammar.start_value p q x d a) e =
     let i = whole kinds 0 (suc n) p q x d (omega arith) (below_at kinds 0 q token.Semicolon NoSuffix a refl (omega arith)) (omega arith) in
     let lt : p.at < q.at = i.0 in
     let rd = read kinds (suc n) in
-    let dn = rule.declaration kinds n in
-    (omega (arith, lt), start_other kinds rd dn p (mark_at kinds p) (expression_leads kinds 0 p q x d) ∙ ap (rule.start_else kinds rd dn p) (leads kinds 0 p q x d)
-          ∙ then_on (rd 0 p) x q _ i.1 ∙ semicolon_on kinds q _ a)
+    let dn = rule.declaration kinds n in (
+      omega (arith, lt),
+      start_other kinds rd dn p (mark_at kinds p) (expression_leads kinds 0 p q x d) ∙ ap (rule.start_else kinds rd dn p) (leads kinds 0 p q x d)
+          ∙ then_on (rd 0 p) x q _ i.1 ∙ semicolon_on kinds q _ a,
+    )
 start_goes kinds n from to all (grammar.start_declared p q x d) e =
     let i = complete_declaration kinds p q x d n e in
     let rd = read kinds (suc n) in
-    let dn = rule.declaration kinds n in
-    (i.0, start_declares kinds rd dn p (mark_at kinds p) (declaration_leads kinds p q x d) ∙ ap (rule.start_else kinds rd dn p) (declaration_begins kinds p q x d)
-          ∙ then_on (dn p) x q _ i.1)
+    let dn = rule.declaration kinds n in (
+      i.0,
+      start_declares kinds rd dn p (mark_at kinds p) (declaration_leads kinds p q x d) ∙ ap (rule.start_else kinds rd dn p) (declaration_begins kinds p q x d)
+          ∙ then_on (dn p) x q _ i.1,
+    )
 
 -- ---- what is shown of statements
 
@@ -158,10 +160,12 @@ value_goes : (kinds : List TokenKind) (p q : Place) (x : Expression) → IsExpre
 value_goes kinds p q x d a zero s e = absurd (omega arith)
 value_goes kinds p q x d a (suc n) s e =
     let i = whole kinds 0 (suc n) p q x d (omega arith) (below_at kinds 0 q token.Semicolon NoSuffix a refl (omega arith)) e in
-    let lt : p.at < q.at = i.0 in
-    (omega (arith, lt), statement_on kinds n p
+    let lt : p.at < q.at = i.0 in (
+      omega (arith, lt),
+      statement_on kinds n p
           ∙ by_operand kinds n p (mark_at kinds p) (expression_leads kinds 0 p q x d) (λ h. second_no_colon kinds p q a (expression_second kinds 0 p q x d h))
-          ∙ then_on (read kinds (suc n) 0 p) x q _ i.1 ∙ semicolon_on kinds q _ a)
+          ∙ then_on (read kinds (suc n) 0 p) x q _ i.1 ∙ semicolon_on kinds q _ a,
+    )
 
 break_goes : (kinds : List TokenKind) (p : Place) → At kinds p token.Break → At kinds (next p) token.Semicolon → ReachesStatement kinds false p (next (next p)) (statement_node.Break p.at)
 break_goes kinds p a b zero s e = absurd (omega arith)
@@ -201,9 +205,11 @@ label_goes kinds p q ends_open name body a b ih zero s e = absurd (omega arith)
 label_goes kinds p q ends_open name body a b ih (suc n) s e =
     let i = ih n s (omega (arith, inside kinds p (token.Name name) a)) in
     let le : p.at + 1 + 1 ≤ q.at = i.0 in
-    let st = rule.statement kinds n in
-    (omega (arith, le), statement_at kinds n p (token.Name name) a ∙ ap (λ k. rule.name_statement kinds (read kinds (suc n)) st p name (mark k)) b
-          ∙ then_on (rule.labelled kinds st (next (next p))) body q _ i.1)
+    let st = rule.statement kinds n in (
+      omega (arith, le),
+      statement_at kinds n p (token.Name name) a ∙ ap (λ k. rule.name_statement kinds (read kinds (suc n)) st p name (mark k)) b
+          ∙ then_on (rule.labelled kinds st (next (next p))) body q _ i.1,
+    )
 
 case_goes : (kinds : List TokenKind) (p q r : Place) (ends_open : Bool) (x : Expression) (body : Statement) → At kinds p token.Case → IsExpression kinds 2 (next p) q x → At kinds q token.Colon
     → ReachesLabelled kinds ends_open (next q) r body → ReachesStatement kinds ends_open p r (statement_node.Case x body p.at)
@@ -213,9 +219,11 @@ case_goes kinds p q r ends_open x body a d b ih (suc n) s e =
     let j = whole kinds 2 (suc n) (next p) q x d (omega arith) (below_at kinds 2 q token.Colon Colons b refl (omega arith)) (omega arith) in
     let lt : p.at + 1 < q.at = j.0 in
     let i = ih n s (omega (arith, lt, w)) in
-    let le : q.at + 1 ≤ r.at = i.0 in
-    (omega (arith, lt, le), statement_at kinds n p token.Case a ∙ then_on (read kinds (suc n) 2 (next p)) x q _ j.1 ∙ colon_on kinds q _ b
-          ∙ then_on (rule.labelled kinds (rule.statement kinds n) (next q)) body r _ i.1)
+    let le : q.at + 1 ≤ r.at = i.0 in (
+      omega (arith, lt, le),
+      statement_at kinds n p token.Case a ∙ then_on (read kinds (suc n) 2 (next p)) x q _ j.1 ∙ colon_on kinds q _ b
+          ∙ then_on (rule.labelled kinds (rule.statement kinds n) (next q)) body r _ i.1,
+    )
 
 default_goes : (kinds : List TokenKind) (p q : Place) (ends_open : Bool) (body : Statement) → At kinds p token.Default → At kinds (next p) token.Colon
     → ReachesLabelled kinds ends_open (next (next p)) q body → ReachesStatement kinds ends_open p q (statement_node.Default body p.at)
@@ -247,9 +255,11 @@ last_if_goes kinds p q r ends_open x body a d ih n (suc c) s e f =
     let i = ih n (λ g h. s refl h) (omega (arith, lt, w)) in
     let lr : q.at < r.at = i.0 in
     let st = rule.statement kinds n in
-    let rd = read kinds (suc n) in
-    (omega (arith, lt, lr), chain_on kinds rd st c p ∙ then_on (rule.test kinds rd (enter (next p))) x q _ j.1 ∙ then_on (st (enter q)) body r _ i.1
-          ∙ chain_ends kinds st (rule.chain kinds rd st c) (record { test = x; body = body; at = p.at }) r (mark_at kinds r) (s refl))
+    let rd = read kinds (suc n) in (
+      omega (arith, lt, lr),
+      chain_on kinds rd st c p ∙ then_on (rule.test kinds rd (enter (next p))) x q _ j.1 ∙ then_on (st (enter q)) body r _ i.1
+          ∙ chain_ends kinds st (rule.chain kinds rd st c) (record { test = x; body = body; at = p.at }) r (mark_at kinds r) (s refl),
+    )
 
 last_else_goes : (kinds : List TokenKind) (p q r t : Place) (ends_open : Bool) (x : Expression) (body y : Statement) → At kinds p token.If → IsTest kinds (enter (next p)) q x
     → ReachesStatement kinds false (enter q) r body → At kinds r token.Else → (At kinds (next r) token.If → ⊥) → ReachesStatement kinds ends_open (enter (leave (next r))) t y
@@ -266,11 +276,13 @@ last_else_goes kinds p q r t ends_open x body y a d ih b no_if jh n (suc c) s e 
     let st = rule.statement kinds n in
     let rd = read kinds (suc n) in
     let more = rule.chain kinds rd st c in
-    let branch : Branch = record { test = x; body = body; at = p.at } in
-    (omega (arith, lt, lr, ls), chain_on kinds rd st c p ∙ then_on (rule.test kinds rd (enter (next p))) x q _ k.1 ∙ then_on (st (enter q)) body r _ i.1
+    let branch : Branch = record { test = x; body = body; at = p.at } in (
+      omega (arith, lt, lr, ls),
+      chain_on kinds rd st c p ∙ then_on (rule.test kinds rd (enter (next p))) x q _ k.1 ∙ then_on (st (enter q)) body r _ i.1
           ∙ ap (λ m. rule.chain_by kinds st more branch r (mark m)) b
           ∙ else_plain st more branch r (mark_at kinds (next r)) (λ h. no_if (mark_means (kind_at kinds (next r)) sign.If h (λ z. cc)))
-          ∙ then_on (st (enter (leave (next r)))) y t _ j.1)
+          ∙ then_on (st (enter (leave (next r)))) y t _ j.1,
+    )
 
 else_if_goes : (kinds : List TokenKind) (p q r t : Place) (ends_open : Bool) (x : Expression) (body : Statement) (branches : List Branch) (y : Option Statement) → At kinds p token.If
     → IsTest kinds (enter (next p)) q x → ReachesStatement kinds false (enter q) r body → At kinds r token.Else → At kinds (next r) token.If
@@ -288,10 +300,12 @@ else_if_goes kinds p q r t ends_open x body branches y a d ih b b2 jh n (suc c) 
     let st = rule.statement kinds n in
     let rd = read kinds (suc n) in
     let more = rule.chain kinds rd st c in
-    let branch : Branch = record { test = x; body = body; at = p.at } in
-    (omega (arith, lt, lr, ls), chain_on kinds rd st c p ∙ then_on (rule.test kinds rd (enter (next p))) x q _ k.1 ∙ then_on (st (enter q)) body r _ i.1
+    let branch : Branch = record { test = x; body = body; at = p.at } in (
+      omega (arith, lt, lr, ls),
+      chain_on kinds rd st c p ∙ then_on (rule.test kinds rd (enter (next p))) x q _ k.1 ∙ then_on (st (enter q)) body r _ i.1
           ∙ ap (λ m. rule.chain_by kinds st more branch r (mark m)) b ∙ ap (λ m. rule.else_by st more branch r (mark m)) b2
-          ∙ then_on (more (enter (leave (next r)))) (Chains branches y) t _ j.1)
+          ∙ then_on (more (enter (leave (next r)))) (Chains branches y) t _ j.1,
+    )
 
 if_alone_goes : (kinds : List TokenKind) (p q : Place) (ends_open : Bool) (branches : List Branch) → At kinds p token.If → ReachesChain kinds ends_open p q branches None
     → ReachesStatement kinds ends_open p q (statement_node.If branches)
@@ -361,9 +375,11 @@ items_goes kinds p q r x xs l ih d jh n (suc c) a e f =
     let w = inside kinds r token.RightBrace a in
     let j = jh n c a (omega (arith, lt)) (omega (arith, lt, ge, w)) in
     let dn = rule.declaration kinds n in
-    let st = rule.statement kinds n in
-    (omega (arith, lt, ge), block_on kinds dn st c p ∙ block_other kinds dn st (rule.block kinds dn st c) p (mark_at kinds p) l ∙ then_on (rule.item kinds dn st p) x q _ i.1
-          ∙ then_on (rule.block kinds dn st c q) xs r _ j.1)
+    let st = rule.statement kinds n in (
+      omega (arith, lt, ge),
+      block_on kinds dn st c p ∙ block_other kinds dn st (rule.block kinds dn st c) p (mark_at kinds p) l ∙ then_on (rule.item kinds dn st p) x q _ i.1
+          ∙ then_on (rule.block kinds dn st c q) xs r _ j.1,
+    )
 
 block_goes : (kinds : List TokenKind) (p q : Place) (xs : List BlockItem) → At kinds p token.LeftBrace → ReachesBlock kinds (enter (next p)) q xs → At kinds q token.RightBrace
     → ReachesStatement kinds false p (leave (next q)) (statement_node.Block xs p.at)
@@ -385,9 +401,11 @@ switch_goes kinds p q r ends_open x body a d ih (suc n) s e =
     let k = test_goes kinds (suc n) (enter (next p)) q x d (omega arith) in
     let lt : p.at + 1 < q.at = k.0 in
     let i = ih n s (omega (arith, lt, w)) in
-    let lr : q.at < r.at = i.0 in
-    (omega (arith, lt, lr), statement_at kinds n p token.Switch a ∙ then_on (rule.test kinds (read kinds (suc n)) (enter (next p))) x q _ k.1
-          ∙ then_on (rule.statement kinds n (enter q)) body r _ i.1)
+    let lr : q.at < r.at = i.0 in (
+      omega (arith, lt, lr),
+      statement_at kinds n p token.Switch a ∙ then_on (rule.test kinds (read kinds (suc n)) (enter (next p))) x q _ k.1
+          ∙ then_on (rule.statement kinds n (enter q)) body r _ i.1,
+    )
 
 while_goes : (kinds : List TokenKind) (p q r : Place) (ends_open : Bool) (x : Expression) (body : Statement) → At kinds p token.While → IsTest kinds (enter (next p)) q x
     → ReachesStatement kinds ends_open (enter q) r body → ReachesStatement kinds ends_open p (leave (leave r)) (statement_node.While x body p.at)
@@ -397,9 +415,11 @@ while_goes kinds p q r ends_open x body a d ih (suc n) s e =
     let k = test_goes kinds (suc n) (enter (next p)) q x d (omega arith) in
     let lt : p.at + 1 < q.at = k.0 in
     let i = ih n s (omega (arith, lt, w)) in
-    let lr : q.at < r.at = i.0 in
-    (omega (arith, lt, lr), statement_at kinds n p token.While a ∙ then_on (rule.test kinds (read kinds (suc n)) (enter (next p))) x q _ k.1
-          ∙ then_on (rule.statement kinds n (enter q)) body r _ i.1)
+    let lr : q.at < r.at = i.0 in (
+      omega (arith, lt, lr),
+      statement_at kinds n p token.While a ∙ then_on (rule.test kinds (read kinds (suc n)) (enter (next p))) x q _ k.1
+          ∙ then_on (rule.statement kinds n (enter q)) body r _ i.1,
+    )
 
 shut_while : (kinds : List TokenKind) (q : Place) (ends_open : Bool) → At kinds q token.While → Shut kinds ends_open q
 shut_while kinds q ends_open a e h = let m : mark_at kinds q ≡ sign.While = ap mark a in let z = sym m ∙ h in cc
@@ -413,9 +433,11 @@ do_goes kinds p q r ends_open body x a ih b d c (suc n) s e =
     let lt : p.at + 1 < q.at = i.0 in
     let k = test_goes kinds (suc n) (leave (next q)) r x d (omega (arith, lt)) in
     let lr : q.at + 1 < r.at = k.0 in
-    let rd = read kinds (suc n) in
-    (omega (arith, lt, lr), statement_at kinds n p token.Do a ∙ then_on (rule.statement kinds n (enter (enter (next p)))) body q _ i.1 ∙ while_on kinds q _ b
-          ∙ then_on (rule.test kinds rd (leave (next q))) x r _ k.1 ∙ semicolon_on kinds r _ c)
+    let rd = read kinds (suc n) in (
+      omega (arith, lt, lr),
+      statement_at kinds n p token.Do a ∙ then_on (rule.statement kinds n (enter (enter (next p)))) body q _ i.1 ∙ while_on kinds q _ b
+          ∙ then_on (rule.test kinds rd (leave (next q))) x r _ k.1 ∙ semicolon_on kinds r _ c,
+    )
 
 for_goes : (kinds : List TokenKind) (p q r s t : Place) (ends_open : Bool) (first : ForStart) (x y : Option Expression) (body : Statement) → At kinds p token.For
     → At kinds (next p) token.LeftParenthesis → IsForStart kinds (enter (next (next p))) q first → IsOptional kinds q r x → At kinds r token.Semicolon
@@ -432,12 +454,14 @@ for_goes kinds p q r s t ends_open first x y body a b c d f g h ih (suc n) o e =
     let l3 : r.at + 1 ≤ s.at = i3.0 in
     let i4 = ih n o (omega (arith, l1, l2, l3, w)) in
     let l4 : s.at + 1 < t.at = i4.0 in
-    let rd = read kinds (suc n) in
-    (omega (arith, l1, l2, l3, l4), statement_at kinds n p token.For a ∙ opens_on kinds (next p) _ b
+    let rd = read kinds (suc n) in (
+      omega (arith, l1, l2, l3, l4),
+      statement_at kinds n p token.For a ∙ opens_on kinds (next p) _ b
           ∙ then_on (rule.start_by kinds rd (rule.declaration kinds n) (enter (next (next p))) (mark_at kinds (enter (next (next p))))) first q _ i1.1
           ∙ then_on (rule.optional_by rd q (mark_at kinds q)) x r _ i2.1 ∙ semicolon_on kinds r _ f
           ∙ then_on (rule.optional_step_by rd (next r) (mark_at kinds (next r))) y s _ i3.1 ∙ closes_on kinds s _ h
-          ∙ then_on (rule.statement kinds n (enter (next s))) body t _ i4.1)
+          ∙ then_on (rule.statement kinds n (enter (next s))) body t _ i4.1,
+    )
 
 -- ---- every statement
 

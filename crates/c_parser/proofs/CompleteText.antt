@@ -1,6 +1,5 @@
 -- What the tokens spell is what the reader of texts reads.
-use Rattle.std.proofs.Common.{◌≡◌, ℕ, zero, suc, ◌+◌, ◌-◌, ◌<◌, ◌≤◌, List, [], ◌∷◌, length, Option, Some, None, Bool, true, false, refl, ap, ◌∙◌, sym, subst, arith, inl, inr}
-use Rattle.std.specs.Prelude.{◌⊎◌, slice_get}
+use Rattle.std.proofs.Common.{◌≡◌, ℕ, zero, suc, ◌+◌, ◌<◌, ◌≤◌, List, [], ◌∷◌, length, Option, Some, None, Bool, true, false, refl, ap, ◌∙◌, arith, inl, inr}
 use Rattle.c_model.specs.declared.token.TokenKind.{TokenKind}
 use Rattle.c_model.specs.declared.token.TokenKind.TheVariants as token
 use Rattle.c_tree.specs.declared.expression.Specifier.{Specifier}
@@ -18,8 +17,8 @@ use Rattle.c_tree.specs.SpellsText.{IsExternal, AreExternals, parameters_of}
 use Rattle.c_parser.specs.Kinds.{kind_at}
 use Rattle.c_parser.specs.Marks as sign
 use Rattle.c_parser.specs.Marks.{Mark, mark, mark_at, extends_declarator}
-use Rattle.c_parser.specs.Reader.{Outcome, Gives, Refuses, and_then}
-use Rattle.c_parser.specs.ReadTypes.{ListOf, separated_after, Specified, Specifies, Titled, Titles}
+use Rattle.c_parser.specs.Reader.{Gives, and_then}
+use Rattle.c_parser.specs.ReadTypes.{ListOf, separated_after, Specifies, Titled, Titles}
 use Rattle.c_parser.specs.Readers.{specifiers, declarator}
 use Rattle.c_parser.specs.ReadStatements.{initialiser, declared_after, declaration_end, names_with, declaration, block, statement}
 use Rattle.c_parser.specs.ReadText as rule
@@ -72,9 +71,16 @@ more_first kinds defines q s r x xs ih b f a n e =
     let i = ih n (inl b) e in
     let lt : q.at < s.at = i.2 in
     let j = complete_names kinds defines (next s) r xs f n n a (omega (arith, lt)) (omega (arith, lt)) in
-    let lr : s.at + 1 < r.at = j.0 in
-    (omega (arith, lr), lt, i.0, i.1, i.3, i.4, i.5,
-      ap (λ k. separated_after (names_with kinds n defines) x s (mark k)) b ∙ then_on (names_with kinds n defines (next s)) xs r _ j.1)
+    let lr : s.at + 1 < r.at = j.0 in (
+      omega (arith, lr),
+      lt,
+      i.0,
+      i.1,
+      i.3,
+      i.4,
+      i.5,
+      ap (λ k. separated_after (names_with kinds n defines) x s (mark k)) b ∙ then_on (names_with kinds n defines (next s)) xs r _ j.1,
+    )
 
 first_of_names : (kinds : List TokenKind) (defines : Bool) (q r : Place) (names : List Declared) → AreDeclared kinds defines q r names → At kinds r token.Semicolon → FirstOf kinds defines q r names
 first_of_names kinds defines from to whole (one_declared q r x d) a = (x, r, one_first kinds defines q r x (complete_declared kinds defines q r x d) a)
@@ -84,9 +90,11 @@ no_names_goes : (kinds : List TokenKind) (p q : Place) (defines : Bool) (list : 
     → ReachesExternal kinds p (next q) (external_node.Declared (record { specifiers = list; names = []; at = q.at }))
 no_names_goes kinds p q defines list d a n e =
     let i = complete_specifiers kinds p q defines list d n (ap (λ k. follows_specifiers (mark k)) a) e in
-    let lt : p.at < q.at = i.0 in
-    (omega (arith, lt), external_specified kinds n p (mark_at kinds p) (specifiers_lead kinds p q defines list d) ∙ then_on (specifiers kinds n p) (Specifies defines list) q _ i.1
-          ∙ ap (λ k. rule.external_named kinds n defines list q (mark k)) a)
+    let lt : p.at < q.at = i.0 in (
+      omega (arith, lt),
+      external_specified kinds n p (mark_at kinds p) (specifiers_lead kinds p q defines list d) ∙ then_on (specifiers kinds n p) (Specifies defines list) q _ i.1
+          ∙ ap (λ k. rule.external_named kinds n defines list q (mark k)) a,
+    )
 
 some_names_goes : (kinds : List TokenKind) (p q r : Place) (defines : Bool) (list : List Specifier) (names : List Declared) → AreSpecifiers kinds p q defines list
     → begins_declarator (mark_at kinds q) ≡ true → FirstOf kinds defines q r names → At kinds r token.Semicolon
@@ -99,12 +107,14 @@ some_names_goes kinds p q r defines list names d l first a n e =
     let s = first.1 in
     let le : s.at ≤ r.at = j.0 in
     let ls : q.at < s.at = j.1 in
-    let end : declaration_end kinds list names r ≡ Gives (record { specifiers = list; names = names; at = r.at }) (next r) = semicolon_on kinds r _ a in
-    (omega (arith, lt, le, ls), external_specified kinds n p (mark_at kinds p) (specifiers_lead kinds p q defines list d) ∙ then_on (specifiers kinds n p) (Specifies defines list) q _ i.1
+    let end : declaration_end kinds list names r ≡ Gives (record { specifiers = list; names = names; at = r.at }) (next r) = semicolon_on kinds r _ a in (
+      omega (arith, lt, le, ls),
+      external_specified kinds n p (mark_at kinds p) (specifiers_lead kinds p q defines list d) ∙ then_on (specifiers kinds n p) (Specifies defines list) q _ i.1
           ∙ external_declared kinds n defines list q (mark_at kinds q) l ∙ then_on (declarator kinds n q) j.2 j.3 _ j.4
           ∙ external_plain kinds n defines list j.2 j.3 (mark_at kinds j.3) j.5 ∙ then_on (declared_after kinds (initialiser kinds n) defines j.2 j.3) x s _ j.6
           ∙ then_on (separated_after (names_with kinds n defines) x s (mark_at kinds s)) names r _ j.7
-          ∙ then_on (declaration_end kinds list names r) (record { specifiers = list; names = names; at = r.at }) (next r) _ end)
+          ∙ then_on (declaration_end kinds list names r) (record { specifiers = list; names = names; at = r.at }) (next r) _ end,
+    )
 
 declared_external_goes : (kinds : List TokenKind) (p q : Place) (x : Declaration) → IsDeclaration kinds p q x → ReachesExternal kinds p q (external_node.Declared x)
 declared_external_goes kinds from to whole (no_names p q defines list d a) = no_names_goes kinds p q defines list d a
@@ -114,7 +124,7 @@ declared_external_goes kinds from to whole (some_names p q r defines list names 
 defined_goes : (kinds : List TokenKind) (p q r s : Place) (defines : Bool) (list : List Specifier) (name : List ℕ) (parameters : Option (List Entry)) (inner : Declarator)
     (items : List BlockItem) → AreSpecifiers kinds p q defines list → IsDecorated kinds q r name parameters inner → At kinds r token.LeftBrace
     → ((n c : ℕ) → Enough kinds n (next r) → Enough kinds c (next r)
-        → (r.at + 1 ≤ s.at) × (block kinds (declaration kinds n) (statement kinds n) c (enter_with (declare (next r) name defines) (parameters_of parameters)) ≡ Gives items s))
+    → (r.at + 1 ≤ s.at) × (block kinds (declaration kinds n) (statement kinds n) c (enter_with (declare (next r) name defines) (parameters_of parameters)) ≡ Gives items s))
     → At kinds s token.RightBrace → ReachesExternal kinds p (leave (next s)) (external_node.Defined list inner items r.at)
 defined_goes kinds p q r s defines list name parameters inner items d f a ih b n e =
     let l = decorated_leads kinds q r name parameters inner f in
@@ -123,12 +133,14 @@ defined_goes kinds p q r s defines list name parameters inner items d f a ih b n
     let j = complete_decorated kinds q r name parameters inner f n (ap (λ k. extends_declarator (mark k)) a) (omega (arith, lt)) in
     let lr : q.at < r.at = j.0 in
     let k = ih n n (omega (arith, lt, lr)) (omega (arith, lt, lr)) in
-    let le : r.at + 1 ≤ s.at = k.0 in
-    (omega (arith, lt, lr, le), external_specified kinds n p (mark_at kinds p) (specifiers_lead kinds p q defines list d) ∙ then_on (specifiers kinds n p) (Specifies defines list) q _ i.1
+    let le : r.at + 1 ≤ s.at = k.0 in (
+      omega (arith, lt, lr, le),
+      external_specified kinds n p (mark_at kinds p) (specifiers_lead kinds p q defines list d) ∙ then_on (specifiers kinds n p) (Specifies defines list) q _ i.1
           ∙ external_declared kinds n defines list q (mark_at kinds q) l ∙ then_on (declarator kinds n q) (Titles name parameters inner) r _ j.1
           ∙ ap (λ m. rule.external_by kinds n defines list (Titles name parameters inner) r (mark m)) a
           ∙ then_on (block kinds (declaration kinds n) (statement kinds n) n (enter_with (declare (next r) name defines) (parameters_of parameters))) items s _ k.1
-          ∙ curly_closes_on kinds s _ b)
+          ∙ curly_closes_on kinds s _ b,
+    )
 
 pub complete_external : (kinds : List TokenKind) (p q : Place) (x : External) → IsExternal kinds p q x → ReachesExternal kinds p q x
 complete_external kinds from to whole (grammar.empty_external p a) = λ n e. (omega arith, ap (λ k. rule.external_from kinds n p (mark k)) a)
@@ -177,9 +189,11 @@ more_externals_goes kinds p q r x xs l ih jh n (suc c) a e f =
     let i = ih n e in
     let lt : p.at < q.at = i.0 in
     let j = jh n c a (omega (arith, lt)) (omega (arith, lt, w)) in
-    let le : q.at ≤ r.at = j.0 in
-    (omega (arith, lt, le), externals_on kinds n c p ∙ externals_some kinds n (rule.externals kinds n c) p (kind_at kinds p) l ∙ then_on (rule.external kinds n p) x q _ i.1
-          ∙ then_on (rule.externals kinds n c q) xs r _ j.1)
+    let le : q.at ≤ r.at = j.0 in (
+      omega (arith, lt, le),
+      externals_on kinds n c p ∙ externals_some kinds n (rule.externals kinds n c) p (kind_at kinds p) l ∙ then_on (rule.external kinds n p) x q _ i.1
+          ∙ then_on (rule.externals kinds n c q) xs r _ j.1,
+    )
 
 pub complete_externals : (kinds : List TokenKind) (p q : Place) (xs : List External) → AreExternals kinds p q xs → ReachesExternals kinds p q xs
 complete_externals kinds from to whole (grammar.no_externals p) = no_externals_goes kinds p

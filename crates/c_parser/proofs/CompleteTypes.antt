@@ -1,38 +1,24 @@
 -- What the tokens spell is what the reader of specifiers reads.
-use Rattle.std.proofs.Common.{◌≡◌, ℕ, zero, suc, ◌+◌, ◌-◌, ◌<◌, ◌≤◌, List, [], ◌∷◌, length, Option, Some, None, Bool, true, false, refl, ap, ◌∙◌, sym, subst, arith, inl, inr}
-use Rattle.std.specs.Prelude.{◌⊎◌, if◌then◌else◌}
+use Rattle.std.proofs.Common.{◌≡◌, ℕ, zero, suc, ◌+◌, ◌<◌, ◌≤◌, List, [], ◌∷◌, length, Bool, true, false, refl, ap, ◌∙◌, arith}
+use Rattle.std.specs.Prelude.{if◌then◌else◌}
 use Rattle.std.proofs.lemmas.Option.{slice_get_within}
-use Rattle.kv_num.specs.declared.types.IntType.{IntType}
 use Rattle.c_model.specs.declared.token.TokenKind.{TokenKind}
 use Rattle.c_model.specs.declared.token.TokenKind.TheVariants as token
-use Rattle.c_tree.specs.declared.expression.StorageWord.{StorageWord}
-use Rattle.c_tree.specs.declared.expression.FunctionWord.{FunctionWord}
 use Rattle.c_tree.specs.declared.expression.Qualifier.{Qualifier}
-use Rattle.c_tree.specs.declared.expression.BaseWord.{BaseWord}
-use Rattle.c_tree.specs.declared.expression.Expression.{Expression}
-use Rattle.c_tree.specs.declared.expression.Specifier.{Specifier}
-use Rattle.c_tree.specs.declared.expression.Specifier.TheVariants as specifier_node
-use Rattle.c_tree.specs.declared.expression.MemberLine.{MemberLine}
-use Rattle.c_tree.specs.declared.expression.Member.{Member}
-use Rattle.c_tree.specs.declared.expression.Member.TheVariants as member_node
-use Rattle.c_tree.specs.declared.expression.EnumConstant.{EnumConstant}
-use Rattle.c_tree.specs.declared.expression.EnumConstant.TheVariants as constant_node
-use Rattle.c_tree.specs.declared.expression.Declarator.{Declarator}
-use Rattle.c_tree.specs.Places.{Entry, Place, At, next, names_type, declare, enter, leave, first_of, IsTypedefName}
-use Rattle.c_tree.specs.Signs.{Bracket, opening, closing, is_bracket, storage_sign, function_sign, qualifier_sign, base_sign}
+use Rattle.c_tree.specs.Places.{Place, At, next}
+use Rattle.c_tree.specs.Signs.{Bracket, opening, closing, is_bracket, qualifier_sign}
 use Rattle.c_tree.specs.Spells as grammar
 use Rattle.c_tree.specs.Spells.{IsBalanced, AreAttributes, AreQualifiers, IsTag, EndsSpecifiers, Role, Types, Modifies, storage_role, types_now, defines_now}
-use Rattle.c_parser.specs.Kinds.{kind_at, suffix, below, Colons, ClosesSquare, Commas, NoSuffix}
+use Rattle.c_parser.specs.Kinds.{kind_at}
 use Rattle.c_parser.specs.Marks as sign
 use Rattle.c_parser.specs.Marks.{Bracketing, Opens, Closes, NoBracket, bracketing, bracketing_of, same_bracket, Mark, mark, mark_at, mark_of, extends_declarator}
-use Rattle.c_parser.specs.Reader.{Outcome, Gives, Refuses, and_then, Reader}
+use Rattle.c_parser.specs.Reader.{Outcome, Gives, Refuses, and_then}
 use Rattle.c_parser.specs.ReadTypes as rule
 use Rattle.c_parser.specs.ReadTypes.{where_opens, where_closes, where_square_closes, where_curly_closes, where_semicolon, balanced, balanced_by, attributes, attributes_by, ListOf, separated, separated_after, listed, listed_after, listed_comma, Specific, Plays, Specified, Specifies, Titled, Titles, qualifiers, qualifiers_by}
-use Rattle.c_parser.specs.Readers.{read, specifiers, perhaps, declarator, struct_with, enum_with}
-use Rattle.c_parser.proofs.MarkLaws.{mark-storage_sign, mark-function_sign, mark-qualifier_sign, mark-base_sign, bracketing-opening, bracketing-closing, bracketing-none, same_bracket-self}
-use Rattle.c_parser.proofs.TypeSteps.{balanced_on, attributes_on, separated_on, listed_on, qualifiers_on, lines_on, further_on, specifiers_on}
-use Rattle.c_parser.proofs.Complete.{Enough, Reaches, exact, below_at}
-use Rattle.c_parser.proofs.Leads.{is_operand, begins_declarator, follows_specifiers, begins_specifiers, is_attribute, is_curly, is_suffix, declarator_follows, no_further, follows_no_attribute, follows_no_curly, begins_no_curly, attributes_no_curly}
+use Rattle.c_parser.proofs.MarkLaws.{mark-qualifier_sign, bracketing-opening, bracketing-closing, bracketing-none, same_bracket-self}
+use Rattle.c_parser.proofs.TypeSteps.{balanced_on, attributes_on, separated_on, listed_on, qualifiers_on}
+use Rattle.c_parser.proofs.Complete.{Enough}
+use Rattle.c_parser.proofs.Leads.{is_attribute}
 
 -- ---- steps
 
@@ -150,11 +136,12 @@ attribute_goes kinds p q r a b c d f g ih (suc n) h e =
     let i = balanced_read kinds n (next (next (next p))) q d f (omega (arith, in_p)) in
     let le : p.at + 1 + 1 + 1 ≤ q.at = i.0 in
     let j = ih n h (omega (arith, le, in_p)) in
-    let ge : q.at + 1 + 1 ≤ r.at = j.0 in
-    (omega (arith, le, ge),
+    let ge : q.at + 1 + 1 ≤ r.at = j.0 in (
+      omega (arith, le, ge),
       attributes_on kinds n p ∙ ap (λ k. attributes_by kinds (balanced kinds n []) (attributes kinds n) p (mark k)) a
           ∙ opens_on kinds (next p) _ b ∙ opens_on kinds (next (next p)) _ c ∙ then_on (balanced kinds n [] (next (next (next p)))) tt q _ i.1
-          ∙ closes_on kinds q _ f ∙ closes_on kinds (next q) _ g ∙ j.1)
+          ∙ closes_on kinds q _ f ∙ closes_on kinds (next q) _ g ∙ j.1,
+    )
 
 pub attributes_goes : (kinds : List TokenKind) (p q : Place) → AreAttributes kinds p q → ReachesAttributes kinds p q
 attributes_goes kinds from to (grammar.no_attributes p) = no_attributes_goes kinds p

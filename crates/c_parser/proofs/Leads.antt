@@ -1,7 +1,6 @@
 -- With which tokens the parts of the grammar begin, and what each lets stand before it.
-use Rattle.std.proofs.Common.{◌≡◌, ℕ, ◌+◌, List, [], ◌∷◌, Option, Some, None, Bool, true, false, refl, ap, ◌∙◌, sym, subst}
+use Rattle.std.proofs.Common.{◌≡◌, ℕ, ◌+◌, List, Option, Some, Bool, true, false, refl, ap, ◌∙◌}
 use Rattle.c_model.specs.declared.token.TokenKind.{TokenKind}
-use Rattle.c_model.specs.declared.token.TokenKind.TheVariants as token
 use Rattle.c_tree.specs.declared.expression.Step.{Step}
 use Rattle.c_tree.specs.declared.expression.Step.TheVariants as step
 use Rattle.c_tree.specs.declared.expression.UnaryOperator.{UnaryOperator}
@@ -16,11 +15,11 @@ use Rattle.c_tree.specs.declared.expression.Member.{Member}
 use Rattle.c_tree.specs.declared.expression.EnumConstant.{EnumConstant}
 use Rattle.c_tree.specs.declared.expression.Declarator.{Declarator}
 use Rattle.c_tree.specs.declared.expression.Parameter.{Parameter}
-use Rattle.c_tree.specs.Places.{Entry, Place, At, next, names_type}
+use Rattle.c_tree.specs.Places.{Entry, Place}
 use Rattle.c_tree.specs.Signs.{step_sign, unary_sign, level, storage_sign, function_sign, qualifier_sign, base_sign}
 use Rattle.c_tree.specs.Spells as grammar
 use Rattle.c_tree.specs.Spells.{IsExpression, AreAttributes, AreSpecifiers, AreFurther, IsSpecifier, EndsSpecifiers, AreMembers, IsMember, AreEnumConstants, IsEnumConstant, IsDecorated, IsDeclarator, IsDirect, AreParameters, IsParameter, Role}
-use Rattle.c_parser.specs.Kinds.{kind_at, Start, Word, TypedefName, NoStart, start, start_of, begins_type, is_start}
+use Rattle.c_parser.specs.Kinds.{kind_at, Word, start, begins_type, is_start}
 use Rattle.c_parser.specs.Marks as sign
 use Rattle.c_parser.specs.Marks.{Mark, mark, mark_at, mark_of, extends_declarator}
 use Rattle.c_parser.specs.ReadTypes.{goes_further, is_further}

@@ -1,5 +1,5 @@
 -- What a token is for a declaration, a type or a statement says which token it is.
-use Rattle.std.proofs.Common.{◌≡◌, ℕ, List, Option, Some, None, Bool, true, false, refl, ap, ◌∙◌, sym, inl, inr}
+use Rattle.std.proofs.Common.{◌≡◌, Option, Some, None, true, false, refl, ap, ◌∙◌, sym, inl, inr}
 use Rattle.std.specs.Prelude.{◌⊎◌}
 use Rattle.c_model.specs.declared.token.TokenKind.{TokenKind}
 use Rattle.c_model.specs.declared.token.TokenKind.TheVariants as token
@@ -11,11 +11,10 @@ use Rattle.c_tree.specs.declared.expression.Qualifier.{Qualifier}
 use Rattle.c_tree.specs.declared.expression.Qualifier.TheVariants as qualifier
 use Rattle.c_tree.specs.declared.expression.BaseWord.{BaseWord}
 use Rattle.c_tree.specs.declared.expression.BaseWord.TheVariants as base
-use Rattle.c_tree.specs.Places.{Place}
 use Rattle.c_tree.specs.Signs.{storage_sign, function_sign, qualifier_sign, base_sign, Bracket, Round, Square, Curly, opening, closing, is_bracket}
-use Rattle.c_parser.specs.Kinds.{kind_at, Start, Word, TypedefName, NoStart, start, start_of}
+use Rattle.c_parser.specs.Kinds.{Start, Word, TypedefName, NoStart, start, start_of}
 use Rattle.c_parser.specs.Marks as sign
-use Rattle.c_parser.specs.Marks.{Bracketing, Opens, Closes, NoBracket, NoToken, bracketing, bracketing_of, same_bracket, Mark, NoMark, mark, mark_of, extends_specifiers}
+use Rattle.c_parser.specs.Marks.{Bracketing, Opens, Closes, NoBracket, NoToken, bracketing, bracketing_of, same_bracket, Mark, NoMark, mark, mark_of}
 
 -- ---- marks
 

@@ -1,13 +1,11 @@
 -- Tokens spell one tree at most, part by part.
-use Rattle.std.proofs.Common.{◌≡◌, ℕ, ◌+◌, ◌-◌, ◌<◌, ◌≤◌, List, length, Option, Some, None, Bool, true, refl, ap, ◌∙◌, sym, arith, inl, inr}
+use Rattle.std.proofs.Common.{◌≡◌, ℕ, ◌+◌, ◌<◌, ◌≤◌, List, length, Option, Some, None, Bool, true, ap, ◌∙◌, sym, arith, inl, inr}
 use Rattle.std.specs.Prelude.{◌⊎◌, slice_get, get_or}
-
 use Rattle.std.proofs.lemmas.Option.{slice_get_past, slice_get_cases}
 use Rattle.c_model.specs.declared.token.TokenKind.{TokenKind}
 use Rattle.c_model.specs.declared.token.TokenKind.TheVariants as token
 use Rattle.c_model.specs.declared.token.Token.{Token}
 use Rattle.c_tree.specs.declared.expression.Declarator.{Declarator}
-use Rattle.c_tree.specs.declared.declaration.External.{External}
 use Rattle.c_tree.specs.declared.declaration.Tree.{Tree}
 use Rattle.c_tree.specs.Places.{Entry, Place, At}
 use Rattle.c_tree.specs.SpellsText.{Spells, kinds_of, beginning}
@@ -15,7 +13,7 @@ use Rattle.c_parser.specs.Kinds.{kind_at}
 use Rattle.c_parser.specs.Marks as sign
 use Rattle.c_parser.specs.Marks.{mark_at}
 use Rattle.c_parser.specs.Reader.{Outcome, Gives}
-use Rattle.c_parser.specs.ReadTypes.{Titled, Titles}
+use Rattle.c_parser.specs.ReadTypes.{Titles}
 use Rattle.c_parser.specs.ReadText.{text}
 use Rattle.c_parser.specs.Laws.{OneExpression, OneTypeName, OneDeclarator, OneDeclaration, OneStatement, OneExternal, OneTree, IsRead, ReadsWhatIsSpelled}
 use Rattle.c_parser.proofs.Depths.{length-kinds_of}

@@ -1,6 +1,6 @@
 -- What the reader reads is spelled by the tokens.
-use Rattle.std.proofs.Common.{◌≡◌, ℕ, zero, suc, ◌+◌, ◌-◌, ◌<◌, ◌≤◌, List, [], ◌∷◌, Option, Some, None, Bool, true, false, refl, ap, ◌∙◌, sym, subst, arith, inl, inr}
-use Rattle.std.specs.Prelude.{nat_le, if◌then◌else◌, ◌⊎◌}
+use Rattle.std.proofs.Common.{◌≡◌, ℕ, zero, suc, ◌+◌, ◌-◌, ◌<◌, ◌≤◌, List, [], ◌∷◌, Bool, true, false, refl, ◌∙◌, sym, subst, arith, inl, inr}
+use Rattle.std.specs.Prelude.{nat_le}
 use Rattle.c_model.specs.declared.token.TokenKind.{TokenKind}
 use Rattle.c_tree.specs.declared.expression.Expression.{Expression}
 use Rattle.c_tree.specs.declared.expression.Expression.TheVariants as tree
@@ -9,11 +9,11 @@ use Rattle.c_tree.specs.Places.{Place, next, names_type}
 use Rattle.c_tree.specs.Signs.{level}
 use Rattle.c_tree.specs.Spells as grammar
 use Rattle.c_tree.specs.Spells.{IsExpression, AreAssignments, IsTypeName}
-use Rattle.c_parser.specs.Kinds.{kind_at, Suffix, Infix, Assigns, Asks, Commas, Subscripts, Calls, Selects, Points, Steps, ClosesRound, ClosesSquare, Colons, NoSuffix, suffix, needs, below, goes_on, Prefix, Names, Constants, Texts, Opens, StepsFirst, Operates, Sizes, NoPrefix, prefix, begins_type}
-use Rattle.c_parser.specs.Reader.{Outcome, Gives, Refuses, and_then, where_round, where_square, where_colon, where_name, Reader, Continues, Lists, Types, items, items_after, call_of, choice_of, suffix_taken, bracketed, sized_by, sized, prefix_taken}
+use Rattle.c_parser.specs.Kinds.{kind_at, Suffix, Infix, Assigns, Asks, Commas, Subscripts, Calls, Selects, Points, Steps, ClosesRound, ClosesSquare, Colons, NoSuffix, suffix, needs, below, Prefix, Names, Constants, Texts, Opens, StepsFirst, Operates, Sizes, NoPrefix, prefix, begins_type}
+use Rattle.c_parser.specs.Reader.{Outcome, Gives, and_then, where_round, where_square, Reader, Continues, Lists, Types, items, items_after, call_of, choice_of, suffix_taken, bracketed, sized_by, sized, prefix_taken}
 use Rattle.c_parser.specs.Readers.{read, more, types}
-use Rattle.c_parser.proofs.KindLaws.{suffix_means, prefix_means, level_low, level_high}
-use Rattle.c_parser.proofs.Steps.{then_gives, gives_as, round_gives, square_gives, colon_gives, name_gives, if_gives, unless_gives, le_true, Decided, decide, more_ends, more_none, more_goes, read_none, read_on, items_none, items_on, goes_true}
+use Rattle.c_parser.proofs.KindLaws.{suffix_means, prefix_means, level_high}
+use Rattle.c_parser.proofs.Steps.{then_gives, gives_as, round_gives, square_gives, colon_gives, name_gives, if_gives, unless_gives, le_true, Decided, more_ends, more_none, more_goes, items_none, items_on, goes_true}
 
 -- ---- levels
 

@@ -1,6 +1,5 @@
 -- What the reader of declarators and type names reads is spelled by the tokens.
-use Rattle.std.proofs.Common.{◌≡◌, ℕ, zero, suc, ◌+◌, ◌<◌, ◌≤◌, List, [], ◌∷◌, Option, Some, None, Bool, true, false, refl, ap, ◌∙◌, sym, subst, arith}
-use Rattle.std.specs.Prelude.{if◌then◌else◌}
+use Rattle.std.proofs.Common.{◌≡◌, ℕ, zero, suc, List, [], ◌∷◌, None, Bool, true, false, refl, ◌∙◌, sym, arith}
 use Rattle.c_model.specs.declared.token.TokenKind.{TokenKind}
 use Rattle.c_model.specs.declared.token.TokenKind.TheVariants as token
 use Rattle.c_tree.specs.declared.expression.Qualifier.{Qualifier}
@@ -9,12 +8,12 @@ use Rattle.c_tree.specs.declared.expression.Declarator.{Declarator}
 use Rattle.c_tree.specs.declared.expression.Declarator.TheVariants as declarator_node
 use Rattle.c_tree.specs.declared.expression.Parameter.{Parameter}
 use Rattle.c_tree.specs.declared.expression.TypeName.{TypeName}
-use Rattle.c_tree.specs.Places.{Entry, Place, At, next, declare, enter, leave, first_of}
+use Rattle.c_tree.specs.Places.{Place, At, next, declare, enter, leave, first_of}
 use Rattle.c_tree.specs.Spells as grammar
 use Rattle.c_tree.specs.Spells.{IsExpression, AreAttributes, AreQualifiers, AreSpecifiers, IsDecorated, IsDeclarator, IsDirect, AreParameters, IsParameter, IsUnnamed, AreArrays, IsTypeName, nearest, InParameter, InTypeName, may_all_qualify}
 use Rattle.c_parser.specs.Marks as sign
 use Rattle.c_parser.specs.Marks.{Mark, NoMark, mark_at}
-use Rattle.c_parser.specs.Reader.{Outcome, Gives, Refuses, and_then, Reader}
+use Rattle.c_parser.specs.Reader.{Outcome, Gives, Reader}
 use Rattle.c_parser.specs.ReadTypes as read
 use Rattle.c_parser.specs.ReadTypes.{Skips, attributes, ListOf, Specified, Specifies, Titled, Titles, ReadsSpecifiers, ReadsDeclarator, qualifiers, Takes, Taken, Perhaps, With, Without, Suffixes, ReadsPerhaps}
 use Rattle.c_parser.proofs.TypeSteps.{suffixes_none, suffixes_on, parameters_none, parameters_on, arrays_none, arrays_on, unnamed_none, unnamed_on}
@@ -171,7 +170,7 @@ perhaps_with_sound kinds rd ird sp is one io n p r y m e h =
     let skip = attributes_sound kinds n in
     perhaps_by_sound kinds (read.suffixes_with kinds rd sp one n)
     (suffixes_sound kinds rd ird (read.parameters kinds (read.parameter (attributes kinds n) sp one) n)
-        (parameters_sound kinds (read.parameter (attributes kinds n) sp one) (parameter_sound kinds (attributes kinds n) skip sp is one io) n) n)
+    (parameters_sound kinds (read.parameter (attributes kinds n) sp one) (parameter_sound kinds (attributes kinds n) skip sp is one io) n) n)
     (qualifiers kinds n) (qualifiers_sound kinds n) (read.decorated (attributes kinds n) one) (decorated_sound kinds (attributes kinds n) skip one io) one io p r y m e h
 
 -- ---- type names

@@ -1,14 +1,13 @@
 -- What the readers read is spelled by the tokens: expressions, specifiers and declarators.
-use Rattle.std.proofs.Common.{◌≡◌, ℕ, zero, suc, ◌∙◌, sym, refl, List}
+use Rattle.std.proofs.Common.{ℕ, zero, suc, ◌∙◌, sym, refl, List}
 use Rattle.c_model.specs.declared.token.TokenKind.{TokenKind}
-use Rattle.c_tree.specs.Places.{Place}
 use Rattle.c_parser.specs.Kinds.{kind_at, suffix, prefix}
 use Rattle.c_parser.specs.Marks.{mark_at}
 use Rattle.c_parser.specs.ReadTypes.{attributes, separated, member, decorated}
 use Rattle.c_parser.specs.Readers.{read, more, specifiers, perhaps, types, declarator, struct_with, enum_with}
 use Rattle.c_parser.proofs.Steps.{decide, read_none, read_on}
 use Rattle.c_parser.proofs.TypeSteps.{specifiers_none, specifiers_on, perhaps_none, perhaps_on}
-use Rattle.c_parser.proofs.Sound.{IsSoundReader, IsSoundContinues, IsSoundTypes, prefix_sound, more_sound_none, more_sound_on}
+use Rattle.c_parser.proofs.Sound.{IsSoundReader, IsSoundContinues, prefix_sound, more_sound_none, more_sound_on}
 use Rattle.c_parser.proofs.SoundTypes.{IsSound, SpecifiedAs, DecoratedAs, PerhapsAs, attributes_sound, members_sound, lines_sound, constants_sound, all_specifiers_sound}
 use Rattle.c_parser.proofs.SoundDeclarators.{decorated_sound, perhaps_with_sound, type_name_sound}
 
@@ -29,7 +28,7 @@ specifiers_on_sound kinds n i p y q h =
     let dc = decorated_sound kinds (attributes kinds n) (attributes_sound kinds n) (perhaps kinds n) i.3 in
     all_specifiers_sound kinds (struct_with kinds (read kinds n) (specifiers kinds n) (perhaps kinds n) n)
     (lines_sound kinds (specifiers kinds n) i.2 (separated kinds (member kinds (read kinds n) (decorated (attributes kinds n) (perhaps kinds n))) n)
-        (members_sound kinds (read kinds n) i.0 (decorated (attributes kinds n) (perhaps kinds n)) dc n) n)
+    (members_sound kinds (read kinds n) i.0 (decorated (attributes kinds n) (perhaps kinds n)) dc n) n)
     (enum_with kinds (read kinds n) n) (constants_sound kinds (read kinds n) i.0 n) (suc n) p y q (sym (specifiers_on kinds n p) ∙ h)
 
 on_sound : (kinds : List TokenKind) (n : ℕ) → AreSound kinds n → AreSound kinds (suc n)

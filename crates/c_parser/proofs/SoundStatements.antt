@@ -1,5 +1,5 @@
 -- What the readers of declarations and statements read is spelled by the tokens.
-use Rattle.std.proofs.Common.{◌≡◌, ℕ, zero, suc, ◌+◌, ◌<◌, ◌≤◌, List, [], ◌∷◌, Option, Some, None, Bool, true, false, refl, ap, ◌∙◌, sym, subst, arith}
+use Rattle.std.proofs.Common.{◌≡◌, ℕ, zero, suc, List, [], ◌∷◌, Option, Some, None, Bool, true, false, refl, ap, ◌∙◌, sym, arith}
 use Rattle.c_model.specs.declared.token.TokenKind.{TokenKind}
 use Rattle.c_model.specs.declared.token.TokenKind.TheVariants as token
 use Rattle.c_tree.specs.declared.expression.Expression.{Expression}
@@ -11,20 +11,19 @@ use Rattle.c_tree.specs.declared.declaration.Declared.TheVariants as declared_no
 use Rattle.c_tree.specs.declared.declaration.Declaration.{Declaration}
 use Rattle.c_tree.specs.declared.statement.Statement.{Statement}
 use Rattle.c_tree.specs.declared.statement.Statement.TheVariants as statement_node
-use Rattle.c_tree.specs.declared.statement.Branch.{Branch}
 use Rattle.c_tree.specs.declared.statement.BlockItem.{BlockItem}
 use Rattle.c_tree.specs.declared.statement.BlockItem.TheVariants as item_node
 use Rattle.c_tree.specs.declared.statement.ForStart.{ForStart}
 use Rattle.c_tree.specs.declared.statement.ForStart.TheVariants as start_node
 use Rattle.c_tree.specs.Places.{Place, At, next, declare, enter, leave}
-use Rattle.c_tree.specs.Spells.{IsExpression, AreSpecifiers}
+use Rattle.c_tree.specs.Spells.{AreSpecifiers}
 use Rattle.c_tree.specs.SpellsStatements as grammar
 use Rattle.c_tree.specs.SpellsStatements.{IsInitialiser, AreParts, IsDeclared, AreDeclared, IsDeclaration, IsOptional, IsForStart, IsTest, IsStatement, IsLabelled, IsChain, AreItems}
-use Rattle.c_parser.specs.Kinds.{kind_at, begins_type}
+use Rattle.c_parser.specs.Kinds.{begins_type}
 use Rattle.c_parser.specs.Marks as sign
 use Rattle.c_parser.specs.Marks.{Mark, NoMark, mark, mark_at}
-use Rattle.c_parser.specs.Reader.{Outcome, Gives, Refuses, and_then, Reader}
-use Rattle.c_parser.specs.ReadTypes.{ListOf, separated, listed, Specified, Specifies, Titled, Titles, ReadsDeclarator}
+use Rattle.c_parser.specs.Reader.{Outcome, Gives, and_then, Reader}
+use Rattle.c_parser.specs.ReadTypes.{ListOf, listed, Specified, Specifies, Titled, Titles}
 use Rattle.c_parser.specs.Readers.{specifiers, declarator}
 use Rattle.c_parser.specs.Readers as readers
 use Rattle.c_parser.specs.ReadStatements as read
@@ -364,11 +363,14 @@ for_sound kinds rd ird dn id st is p r y a h =
     let d = closes_gives (mark_at kinds v.1) _ y r v.3 in
     let f = then_gives (st (enter (next v.1))) _ y r d.1 in
     let w = is (enter (next v.1)) f.0 f.1 f.2 in
-    gives_as (λ z o. Whole kinds p o z) (statement_node.For t.0 u.0 v.0 f.0 p.at) y (leave (leave f.1)) r f.3
-    (w.0, grammar.for_loop p t.1 u.1 v.1 f.1 w.0 t.0 u.0 v.0 f.0 a (says kinds (next p) sign.RoundOpens b.0 (λ z. cc))
-        (start_sound kinds rd ird dn id (enter (next (next p))) t.1 t.0 (mark_at kinds (enter (next (next p)))) refl t.2)
-        (optional_sound kinds rd ird t.1 u.1 u.0 (mark_at kinds t.1) u.2) (says kinds u.1 sign.Semicolon c.0 (λ z. cc))
-        (optional_step_sound kinds rd ird (next u.1) v.1 v.0 (mark_at kinds (next u.1)) v.2) (says kinds v.1 sign.RoundCloses d.0 (λ z. cc)) w.1, w.2)
+    gives_as (λ z o. Whole kinds p o z) (statement_node.For t.0 u.0 v.0 f.0 p.at) y (leave (leave f.1)) r f.3 (
+      w.0,
+      grammar.for_loop p t.1 u.1 v.1 f.1 w.0 t.0 u.0 v.0 f.0 a (says kinds (next p) sign.RoundOpens b.0 (λ z. cc))
+          (start_sound kinds rd ird dn id (enter (next (next p))) t.1 t.0 (mark_at kinds (enter (next (next p)))) refl t.2)
+          (optional_sound kinds rd ird t.1 u.1 u.0 (mark_at kinds t.1) u.2) (says kinds u.1 sign.Semicolon c.0 (λ z. cc))
+          (optional_step_sound kinds rd ird (next u.1) v.1 v.0 (mark_at kinds (next u.1)) v.2) (says kinds v.1 sign.RoundCloses d.0 (λ z. cc)) w.1,
+      w.2,
+    )
 
 return_sound : (kinds : List TokenKind) (rd : Reader) → IsSoundReader kinds rd → (p r : Place) (y : Statement) → At kinds p token.Return → read.return_statement kinds rd p ≡ Gives y r → Whole kinds p r y
 return_sound kinds rd ird p r y a h =

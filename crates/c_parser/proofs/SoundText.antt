@@ -1,5 +1,5 @@
 -- What the reader of texts reads is spelled by the tokens.
-use Rattle.std.proofs.Common.{◌≡◌, ℕ, zero, suc, ◌+◌, List, [], ◌∷◌, Option, Some, None, Bool, refl, ◌∙◌, sym, ap}
+use Rattle.std.proofs.Common.{◌≡◌, ℕ, zero, suc, List, [], ◌∷◌, Option, Some, None, Bool, refl, ◌∙◌, sym}
 use Rattle.c_model.specs.declared.token.TokenKind.{TokenKind}
 use Rattle.c_tree.specs.declared.expression.Specifier.{Specifier}
 use Rattle.c_tree.specs.declared.declaration.Declared.{Declared}
@@ -15,7 +15,7 @@ use Rattle.c_tree.specs.SpellsText.{IsExternal, AreExternals, parameters_of}
 use Rattle.c_parser.specs.Kinds.{kind_at}
 use Rattle.c_parser.specs.Marks as sign
 use Rattle.c_parser.specs.Marks.{Mark, mark_at}
-use Rattle.c_parser.specs.Reader.{Outcome, Gives, Refuses, and_then}
+use Rattle.c_parser.specs.Reader.{Gives}
 use Rattle.c_parser.specs.ReadTypes.{ListOf, separated_after, Specified, Specifies, Titled, Titles}
 use Rattle.c_parser.specs.Readers.{specifiers, declarator}
 use Rattle.c_parser.specs.ReadStatements.{initialiser, declared_after, declaration_end, names_with, declaration, block, statement}
@@ -35,7 +35,7 @@ external_names_sound kinds n p q r s defines list x y d e h =
     let t = then_gives (separated_after (names_with kinds n defines) x r (mark_at kinds r)) _ y s h in
     let u = then_gives (declaration_end kinds list t.0 t.1) read.is_declaration y s t.3 in
     let all = separated_after_sound kinds (IsDeclared kinds defines) (AreDeclared kinds defines) (λ a b z f. one_declared a b z f) (λ a b c z zs f g i. more_declared a b c z zs f g i)
-        (names_with kinds n defines) (names_sound kinds n defines) q r t.1 x t.0 (mark_at kinds r) refl e t.2 in
+    (names_with kinds n defines) (names_sound kinds n defines) q r t.1 x t.0 (mark_at kinds r) refl e t.2 in
     is_declaration_sound kinds p u.1 s u.0 y (declaration_end_sound kinds p q t.1 u.1 defines list t.0 u.0 d all u.2) u.3
 
 defined_sound : (kinds : List TokenKind) (items : ListOf BlockItem) → IsSound (AreItems kinds) items → (p q r s : Place) (defines : Bool) (list : List Specifier) (d : Titled) (y : External)
@@ -45,7 +45,7 @@ defined_sound kinds items ii p q r s defines list (Titles name parameters inner)
     let c = curly_closes_gives (mark_at kinds t.1) _ y s t.3 in
     gives_as (λ z v. IsExternal kinds p v z) (external_node.Defined list inner t.0 r.at) y (leave (next t.1)) s c.1
     (grammar.defined_function p q r t.1 defines list name parameters inner t.0 a d (says kinds r sign.CurlyOpens e (λ z. cc))
-        (ii (enter_with (declare (next r) name defines) (parameters_of parameters)) t.0 t.1 t.2) (says kinds t.1 sign.CurlyCloses c.0 (λ z. cc)))
+    (ii (enter_with (declare (next r) name defines) (parameters_of parameters)) t.0 t.1 t.2) (says kinds t.1 sign.CurlyCloses c.0 (λ z. cc)))
 
 external_by_sound : (kinds : List TokenKind) (n : ℕ) (p q r s : Place) (defines : Bool) (list : List Specifier) (d : Titled) (y : External) (m : Mark) → AreSpecifiers kinds p q defines list
     → DecoratedAs kinds q r d → mark_at kinds r ≡ m → read.external_by kinds n defines list d r m ≡ Gives y s → IsExternal kinds p s y

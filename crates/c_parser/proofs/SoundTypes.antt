@@ -1,6 +1,5 @@
 -- What the reader of types and declarators reads is spelled by the tokens.
-use Rattle.std.proofs.Common.{◌≡◌, ℕ, zero, suc, ◌+◌, ◌<◌, ◌≤◌, List, [], ◌∷◌, Option, Some, None, Bool, true, false, refl, ap, ◌∙◌, sym, subst, arith, inl, inr}
-use Rattle.std.specs.Prelude.{if◌then◌else◌}
+use Rattle.std.proofs.Common.{◌≡◌, ℕ, zero, suc, List, [], ◌∷◌, Option, Some, None, Bool, true, false, refl, ap, ◌∙◌, sym, arith}
 use Rattle.c_model.specs.declared.token.TokenKind.{TokenKind}
 use Rattle.c_model.specs.declared.token.TokenKind.TheVariants as token
 use Rattle.c_tree.specs.declared.expression.Qualifier.{Qualifier}
@@ -11,24 +10,19 @@ use Rattle.c_tree.specs.declared.expression.Member.{Member}
 use Rattle.c_tree.specs.declared.expression.Member.TheVariants as member_node
 use Rattle.c_tree.specs.declared.expression.EnumConstant.{EnumConstant}
 use Rattle.c_tree.specs.declared.expression.EnumConstant.TheVariants as constant_node
-use Rattle.c_tree.specs.declared.expression.Declarator.{Declarator}
-use Rattle.c_tree.specs.declared.expression.Declarator.TheVariants as declarator_node
-use Rattle.c_tree.specs.declared.expression.Parameter.{Parameter}
-use Rattle.c_tree.specs.declared.expression.TypeName.{TypeName}
-use Rattle.c_tree.specs.Places.{Entry, Place, At, next, names_type, declare, enter, leave, first_of}
+use Rattle.c_tree.specs.Places.{Place, At, next, names_type, declare}
 use Rattle.c_tree.specs.Signs.{Bracket, opening, closing, is_bracket}
 use Rattle.c_tree.specs.Spells as grammar
 use Rattle.c_tree.specs.Spells.{IsExpression, IsBalanced, AreAttributes, AreQualifiers, AreSpecifiers, AreFurther, IsSpecifier, IsTag, EndsSpecifiers, AreMemberLines, AreMembers, IsMember, AreEnumConstants, IsEnumConstant, IsDecorated, IsDeclarator, IsDirect, AreParameters, IsParameter, IsUnnamed, AreArrays, IsTypeName, Role, Types, Modifies, storage_role, types_now, defines_now, nearest, InParameter, InTypeName, may_all_qualify}
-use Rattle.c_parser.specs.Kinds.{kind_at, Start, Word, TypedefName, NoStart, start}
+use Rattle.c_parser.specs.Kinds.{kind_at, start}
 use Rattle.c_parser.specs.Marks as sign
 use Rattle.c_parser.specs.Marks.{Bracketing, Opens, Closes, NoBracket, NoToken, bracketing, same_bracket, Mark, NoMark, mark, mark_at}
-use Rattle.c_parser.specs.Reader.{Outcome, Gives, Refuses, and_then, Reader}
+use Rattle.c_parser.specs.Reader.{Outcome, Gives, Reader}
 use Rattle.c_parser.specs.ReadTypes as read
 use Rattle.c_parser.specs.ReadTypes.{where_opens, where_closes, where_square_closes, where_curly_closes, where_semicolon, Skips, balanced, balanced_by, attributes, attributes_by, ListOf, separated, separated_after, listed, listed_after, listed_comma, Specific, Plays, Specified, Specifies, Titled, Titles, ReadsSpecifiers, ReadsDeclarator, qualifiers, qualifiers_by, Takes, Taken, Perhaps, With, Without, Suffixes, ReadsPerhaps}
-use Rattle.c_parser.proofs.KindLaws.{suffix_means}
-use Rattle.c_parser.proofs.MarkLaws.{mark_sign, mark_means, start-mark, start_marked, Bracketed, bracketed, same_bracket_means}
-use Rattle.c_parser.proofs.TypeSteps.{balanced_none, balanced_on, attributes_none, attributes_on, separated_none, separated_on, listed_none, listed_on, qualifiers_none, qualifiers_on, lines_none, lines_on, further_none, further_on, suffixes_none, suffixes_on, parameters_none, parameters_on, arrays_none, arrays_on, unnamed_none, unnamed_on}
-use Rattle.c_parser.proofs.Steps.{Then, then_gives, gives_as, if_gives}
+use Rattle.c_parser.proofs.MarkLaws.{mark_sign, mark_means, Bracketed, bracketed, same_bracket_means}
+use Rattle.c_parser.proofs.TypeSteps.{balanced_none, balanced_on, attributes_none, attributes_on, separated_none, separated_on, listed_none, listed_on, qualifiers_none, qualifiers_on, lines_none, lines_on, further_none, further_on}
+use Rattle.c_parser.proofs.Steps.{then_gives, gives_as, if_gives}
 use Rattle.c_parser.proofs.Sound.{IsSoundReader}
 
 -- ---- marks that come next
@@ -391,7 +385,7 @@ further_sound : (kinds : List TokenKind) (struct : ListOf MemberLine) → IsSoun
 further_sound kinds struct is enum ie zero typed p y q h = let z = further_none kinds struct enum typed p in cc
 further_sound kinds struct is enum ie (suc n) typed p y q h =
     let t = then_gives (read.specifier_by kinds struct enum typed p (mark_at kinds p)) (read.further_after kinds (attributes kinds n) (read.further kinds struct enum n) typed) y q
-        (sym (further_on kinds struct enum n typed p) ∙ h) in
+    (sym (further_on kinds struct enum n typed p) ∙ h) in
     further_after_sound kinds (attributes kinds n) (attributes_sound kinds n) (read.further kinds struct enum n) (further_sound kinds struct is enum ie n) typed p t.1 q t.0 y
     (specifier_by_sound kinds struct is enum ie typed p t.1 t.0 (mark_at kinds p) refl t.2) t.3
 

@@ -1,5 +1,5 @@
 -- With which tokens declarations and statements begin.
-use Rattle.std.proofs.Common.{◌≡◌, ℕ, ◌+◌, List, [], ◌∷◌, Option, Some, None, Bool, true, false, refl, ap, ◌∙◌, sym, subst, inl, inr}
+use Rattle.std.proofs.Common.{◌≡◌, ℕ, ◌+◌, List, Option, Some, None, Bool, true, false, refl, ap, ◌∙◌, sym, subst, inl, inr}
 use Rattle.std.specs.Prelude.{◌⊎◌}
 use Rattle.c_model.specs.declared.token.TokenKind.{TokenKind}
 use Rattle.c_model.specs.declared.token.TokenKind.TheVariants as token
@@ -18,12 +18,12 @@ use Rattle.c_tree.specs.declared.statement.Statement.{Statement}
 use Rattle.c_tree.specs.declared.statement.Branch.{Branch}
 use Rattle.c_tree.specs.declared.statement.BlockItem.{BlockItem}
 use Rattle.c_tree.specs.Places.{Place, At, next}
-use Rattle.c_tree.specs.Signs.{step_sign, unary_sign, binary_sign, assign_sign, level, storage_sign}
+use Rattle.c_tree.specs.Signs.{step_sign, unary_sign, binary_sign, assign_sign, level}
 use Rattle.c_tree.specs.Spells as grammar
 use Rattle.c_tree.specs.Spells.{IsExpression, AreAttributes, AreSpecifiers, AreFurther, IsSpecifier, Role}
 use Rattle.c_tree.specs.SpellsStatements as statements
 use Rattle.c_tree.specs.SpellsStatements.{IsDeclaration, IsStatement, IsChain, AreItems}
-use Rattle.c_parser.specs.Kinds.{kind_at, begins_type, is_start, start}
+use Rattle.c_parser.specs.Kinds.{begins_type, is_start, start}
 use Rattle.c_parser.specs.Marks as sign
 use Rattle.c_parser.specs.Marks.{Mark, mark, mark_at, mark_of}
 use Rattle.c_parser.specs.ReadStatements.{is_colon, declares, declares_by}

@@ -1,10 +1,10 @@
 -- One step of the readers of declarations, statements and texts.
-use Rattle.std.proofs.Common.{◌≡◌, ℕ, zero, suc, List, [], Bool, refl}
+use Rattle.std.proofs.Common.{◌≡◌, ℕ, zero, suc, List, refl}
 use Rattle.c_model.specs.declared.token.TokenKind.{TokenKind}
 use Rattle.c_tree.specs.Places.{Place, next, enter}
 use Rattle.c_parser.specs.Kinds.{kind_at}
 use Rattle.c_parser.specs.Marks.{mark_at}
-use Rattle.c_parser.specs.Reader.{Outcome, Gives, Refuses, and_then, Reader}
+use Rattle.c_parser.specs.Reader.{Refuses, and_then, Reader}
 use Rattle.c_parser.specs.ReadTypes.{listed}
 use Rattle.c_parser.specs.Readers.{read}
 use Rattle.c_parser.specs.ReadStatements.{initialiser, initialiser_by, ReadsStatement, ReadsDeclaration, test, chain, chain_of, block, block_by, statement, statement_by, declaration}

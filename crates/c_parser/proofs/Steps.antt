@@ -1,12 +1,12 @@
 -- One step of the reader, and what an outcome says of its parts.
-use Rattle.std.proofs.Common.{◌≡◌, ℕ, zero, suc, ◌+◌, ◌<◌, ◌≤◌, List, [], ◌∷◌, Option, Some, None, Bool, true, false, refl, ap, ◌∙◌, sym, subst, arith, inl, inr}
+use Rattle.std.proofs.Common.{◌≡◌, ℕ, zero, suc, ◌+◌, ◌<◌, ◌≤◌, List, Bool, true, false, refl, ap, ◌∙◌, sym, subst, arith, inl, inr}
 use Rattle.std.specs.Prelude.{nat_le, if◌then◌else◌, ◌&&◌, ◌⊎◌}
 use Rattle.std.proofs.lemmas.Bool.{le-leb, lt-leb, cases_lt}
 use Rattle.c_model.specs.declared.token.TokenKind.{TokenKind}
 use Rattle.c_tree.specs.declared.expression.Expression.{Expression}
-use Rattle.c_tree.specs.Places.{Place, next}
+use Rattle.c_tree.specs.Places.{Place}
 use Rattle.c_parser.specs.Kinds.{kind_at, Suffix, ClosesRound, ClosesSquare, Colons, suffix, needs, below, goes_on, Prefix, Names, prefix}
-use Rattle.c_parser.specs.Reader.{Outcome, Gives, Refuses, and_then, where_round, where_square, where_colon, where_name, Reader, Continues, Lists, items, items_after, suffix_taken, prefix_taken}
+use Rattle.c_parser.specs.Reader.{Outcome, Gives, Refuses, and_then, where_round, where_square, where_colon, where_name, Reader, items, items_after, suffix_taken, prefix_taken}
 use Rattle.c_parser.specs.Readers.{read, more, types}
 
 -- ---- outcomes

@@ -10,7 +10,7 @@ use Rattle.c_tree.specs.Places.{Place}
 use Rattle.c_tree.specs.Signs.{Bracket}
 use Rattle.c_parser.specs.Kinds.{kind_at}
 use Rattle.c_parser.specs.Marks.{bracketing, mark_at}
-use Rattle.c_parser.specs.Reader.{Outcome, Gives, Refuses, and_then, Reader}
+use Rattle.c_parser.specs.Reader.{Outcome, Refuses, and_then, Reader}
 use Rattle.c_parser.specs.ReadTypes.{balanced, balanced_by, attributes, attributes_by, ListOf, separated, separated_after, listed, listed_after, Titled, ReadsSpecifiers, qualifiers, qualifiers_by, lines, lines_by, specifier_by, further, further_after, suffixes, suffixes_by, Takes, parameters, parameters_after, arrays, arrays_by, unnamed, unnamed_by, all_specifiers, perhaps_with}
 use Rattle.c_parser.specs.Readers.{struct_with, enum_with, read, specifiers, perhaps}
 
@@ -130,4 +130,3 @@ pub perhaps_on : (kinds : List TokenKind) (n : ℕ) (p : Place)
     → perhaps kinds (suc n) p ≡ perhaps_with kinds (read kinds n) (specifiers kinds n) (perhaps kinds n) n p (mark_at kinds p)
 unfolding perhaps
 perhaps_on kinds n p = refl
-

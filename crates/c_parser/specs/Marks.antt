@@ -139,19 +139,6 @@ mark_at kinds p = mark (kind_at kinds p)
 
 -- ---- what goes on
 
--- specifiers, and what has no meaning behind them, go on with it, also where a type stands among them
-abbrev pub extends_specifiers : Mark → Bool
-extends_specifiers Attribute = true
-extends_specifiers Extension = true
-extends_specifiers (Stores word) = true
-extends_specifiers (Functions word) = true
-extends_specifiers (Qualifies word) = true
-extends_specifiers (Bases word) = true
-extends_specifiers (TypeWords kind) = true
-extends_specifiers Structs = true
-extends_specifiers Enums = true
-extends_specifiers _ = false
-
 -- a declarator, and what has no meaning behind it, goes on with it
 abbrev pub extends_declarator : Mark → Bool
 extends_declarator RoundOpens = true

@@ -1,8 +1,14 @@
 //! Laws of the grammar. Each function's contract is one, and the function does nothing.
 
 ghost use Rattle.c_parser.specs.Laws.{
-    OneDeclaration, OneDeclarator, OneExpression, OneExternal, OneStatement, OneTree, OneTypeName,
-    ReadsWhatIsSpelled,
+  OneDeclaration,
+  OneDeclarator,
+  OneExpression,
+  OneExternal,
+  OneStatement,
+  OneTree,
+  OneTypeName,
+  ReadsWhatIsSpelled,
 };
 
 /// Tokens spell one expression of a level, where the next token goes on with none, and one type name before a `)`.
