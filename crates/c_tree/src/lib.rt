@@ -3,6 +3,7 @@
 
 mod declaration;
 mod expression;
+mod scope;
 mod statement;
 
 pub use declaration::{
@@ -13,4 +14,5 @@ pub use expression::{
     Member, MemberLine, Parameter, Qualifier, Specifier, Step, StorageWord, TypeName,
     UnaryOperator,
 };
+pub use scope::Entry;
 pub use statement::{BlockItem, Branch, ForStart, Statement};
