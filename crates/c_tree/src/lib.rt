@@ -1,6 +1,7 @@
 //! The trees of C texts, and the tokens that spell them.
 #![tactic(auto)]
 
+mod copied;
 mod declaration;
 mod expression;
 mod scope;
