@@ -11,7 +11,8 @@ use Rattle.c_tree.specs.declared.declaration.Initialiser.TheVariants as initiali
 use Rattle.c_tree.specs.declared.declaration.Declared.{Declared}
 use Rattle.c_tree.specs.declared.declaration.Declared.TheVariants as declared_node
 use Rattle.c_tree.specs.declared.declaration.Declaration.{Declaration}
-use Rattle.c_tree.specs.Places.{Entry, Place, At, next, declare}
+use Rattle.c_tree.specs.declared.scope.Entry.{Entry}
+use Rattle.c_tree.specs.Places.{Place, At, next, declare}
 use Rattle.c_tree.specs.SpellsStatements as grammar
 use Rattle.c_tree.specs.SpellsStatements.{IsInitialiser, AreParts, IsDeclared, AreDeclared, IsDeclaration}
 use Rattle.c_parser.specs.Kinds.{kind_at, suffix, below, Commas, NoSuffix}

@@ -9,7 +9,8 @@ use Rattle.c_tree.specs.declared.expression.Specifier.{Specifier}
 use Rattle.c_tree.specs.declared.expression.Declarator.{Declarator}
 use Rattle.c_tree.specs.declared.expression.Declarator.TheVariants as declarator_node
 use Rattle.c_tree.specs.declared.expression.Parameter.{Parameter}
-use Rattle.c_tree.specs.Places.{Entry, Place, At, next, declare, enter, leave, first_of}
+use Rattle.c_tree.specs.declared.scope.Entry.{Entry}
+use Rattle.c_tree.specs.Places.{Place, At, next, declare, enter, leave, first_of}
 use Rattle.c_tree.specs.Spells as grammar
 use Rattle.c_tree.specs.Spells.{AreAttributes, IsUnnamed, AreArrays, nearest, Unnamed, InParameter, InTypeName, may_all_qualify}
 use Rattle.c_parser.specs.Kinds.{ClosesSquare, begins_type}

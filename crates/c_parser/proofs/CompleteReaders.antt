@@ -9,7 +9,8 @@ use Rattle.c_tree.specs.declared.expression.EnumConstant.{EnumConstant}
 use Rattle.c_tree.specs.declared.expression.Declarator.{Declarator}
 use Rattle.c_tree.specs.declared.expression.Parameter.{Parameter}
 use Rattle.c_tree.specs.declared.expression.TypeName.{TypeName}
-use Rattle.c_tree.specs.Places.{Entry, Place, next, enter}
+use Rattle.c_tree.specs.declared.scope.Entry.{Entry}
+use Rattle.c_tree.specs.Places.{Place, next, enter}
 use Rattle.c_tree.specs.Signs.{level}
 use Rattle.c_tree.specs.Spells as grammar
 use Rattle.c_tree.specs.Spells.{IsExpression, AreAssignments, IsTypeName, AreSpecifiers, AreFurther, IsSpecifier, AreMemberLines, AreMembers, IsMember, AreEnumConstants, IsEnumConstant, IsDecorated, IsDeclarator, IsDirect, AreParameters, IsParameter, IsUnnamed, AreArrays, Role, Unnamed, InParameter, InTypeName, types_now}

@@ -17,7 +17,8 @@ use Rattle.c_tree.specs.declared.expression.Member.TheVariants as member_node
 use Rattle.c_tree.specs.declared.expression.EnumConstant.{EnumConstant}
 use Rattle.c_tree.specs.declared.expression.EnumConstant.TheVariants as constant_node
 use Rattle.c_tree.specs.declared.expression.Declarator.{Declarator}
-use Rattle.c_tree.specs.Places.{Entry, Place, At, next, declare, IsTypedefName}
+use Rattle.c_tree.specs.declared.scope.Entry.{Entry}
+use Rattle.c_tree.specs.Places.{Place, At, next, declare, IsTypedefName}
 use Rattle.c_tree.specs.Signs.{storage_sign, function_sign, qualifier_sign, base_sign}
 use Rattle.c_tree.specs.Spells as grammar
 use Rattle.c_tree.specs.Spells.{AreAttributes, IsTag, EndsSpecifiers, Role, Types, Modifies, storage_role, types_now, defines_now}

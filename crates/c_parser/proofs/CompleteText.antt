@@ -9,7 +9,8 @@ use Rattle.c_tree.specs.declared.declaration.Declaration.{Declaration}
 use Rattle.c_tree.specs.declared.declaration.External.{External}
 use Rattle.c_tree.specs.declared.declaration.External.TheVariants as external_node
 use Rattle.c_tree.specs.declared.statement.BlockItem.{BlockItem}
-use Rattle.c_tree.specs.Places.{Entry, Place, At, next, declare, enter_with, leave}
+use Rattle.c_tree.specs.declared.scope.Entry.{Entry}
+use Rattle.c_tree.specs.Places.{Place, At, next, declare, enter_with, leave}
 use Rattle.c_tree.specs.Spells.{AreSpecifiers, IsDecorated}
 use Rattle.c_tree.specs.SpellsStatements.{IsDeclaration, AreDeclared, no_names, some_names, one_declared, more_declared}
 use Rattle.c_tree.specs.SpellsText as grammar

@@ -15,7 +15,8 @@ use Rattle.c_tree.specs.declared.expression.Member.{Member}
 use Rattle.c_tree.specs.declared.expression.EnumConstant.{EnumConstant}
 use Rattle.c_tree.specs.declared.expression.Declarator.{Declarator}
 use Rattle.c_tree.specs.declared.expression.Parameter.{Parameter}
-use Rattle.c_tree.specs.Places.{Entry, Place}
+use Rattle.c_tree.specs.declared.scope.Entry.{Entry}
+use Rattle.c_tree.specs.Places.{Place}
 use Rattle.c_tree.specs.Signs.{step_sign, unary_sign, level, storage_sign, function_sign, qualifier_sign, base_sign}
 use Rattle.c_tree.specs.Spells as grammar
 use Rattle.c_tree.specs.Spells.{IsExpression, AreAttributes, AreSpecifiers, AreFurther, IsSpecifier, EndsSpecifiers, AreMembers, IsMember, AreEnumConstants, IsEnumConstant, IsDecorated, IsDeclarator, IsDirect, AreParameters, IsParameter, Role}

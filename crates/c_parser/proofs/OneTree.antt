@@ -7,7 +7,8 @@ use Rattle.c_model.specs.declared.token.TokenKind.TheVariants as token
 use Rattle.c_model.specs.declared.token.Token.{Token}
 use Rattle.c_tree.specs.declared.expression.Declarator.{Declarator}
 use Rattle.c_tree.specs.declared.declaration.Tree.{Tree}
-use Rattle.c_tree.specs.Places.{Entry, Place, At}
+use Rattle.c_tree.specs.declared.scope.Entry.{Entry}
+use Rattle.c_tree.specs.Places.{Place, At}
 use Rattle.c_tree.specs.SpellsText.{Spells, kinds_of, beginning}
 use Rattle.c_parser.specs.Kinds.{kind_at}
 use Rattle.c_parser.specs.Marks as sign

@@ -10,7 +10,8 @@ use Rattle.c_tree.specs.declared.declaration.Declaration.{Declaration}
 use Rattle.c_tree.specs.declared.declaration.External.{External}
 use Rattle.c_tree.specs.declared.declaration.Tree.{Tree}
 use Rattle.c_tree.specs.declared.statement.Statement.{Statement}
-use Rattle.c_tree.specs.Places.{Entry, Place, At}
+use Rattle.c_tree.specs.declared.scope.Entry.{Entry}
+use Rattle.c_tree.specs.Places.{Place, At}
 use Rattle.c_tree.specs.Spells.{IsExpression, IsTypeName, IsDecorated}
 use Rattle.c_tree.specs.SpellsStatements.{IsDeclaration, IsStatement}
 use Rattle.c_tree.specs.SpellsText.{IsExternal, Spells, kinds_of}

@@ -13,7 +13,8 @@ use Rattle.c_tree.specs.declared.expression.Declarator.{Declarator}
 use Rattle.c_tree.specs.declared.expression.Declarator.TheVariants as declarator_node
 use Rattle.c_tree.specs.declared.expression.Parameter.{Parameter}
 use Rattle.c_tree.specs.declared.expression.TypeName.{TypeName}
-use Rattle.c_tree.specs.Places.{Entry, Place, next, names_type, declare, enter, leave, first_of}
+use Rattle.c_tree.specs.declared.scope.Entry.{Entry}
+use Rattle.c_tree.specs.Places.{Place, next, names_type, declare, enter, leave, first_of}
 use Rattle.c_tree.specs.Signs.{Bracket}
 use Rattle.c_tree.specs.Spells.{Role, Types, Modifies, storage_role, types_now, defines_now, nearest, InParameter, InTypeName, may_all_qualify}
 use Rattle.c_parser.specs.Kinds.{kind_at, Start, Word, TypedefName, NoStart, start}
