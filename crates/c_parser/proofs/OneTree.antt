@@ -1,11 +1,12 @@
 -- Tokens spell one tree at most, part by part.
-use Rattle.std.proofs.Common.{◌≡◌, ℕ, ◌+◌, ◌<◌, ◌≤◌, List, length, Option, Some, None, Bool, true, ap, ◌∙◌, sym, arith, inl, inr}
+use Rattle.std.proofs.Common.{◌≡◌, ℕ, ◌+◌, ◌<◌, ◌≤◌, List, length, Option, Some, None, Bool, true, ap, ◌∙◌, sym, refl, arith, inl, inr}
 use Rattle.std.specs.Prelude.{◌⊎◌, slice_get, get_or}
 use Rattle.std.proofs.lemmas.Option.{slice_get_past, slice_get_cases}
 use Rattle.c_model.specs.declared.token.TokenKind.{TokenKind}
 use Rattle.c_model.specs.declared.token.TokenKind.TheVariants as token
 use Rattle.c_model.specs.declared.token.Token.{Token}
 use Rattle.c_tree.specs.declared.expression.Declarator.{Declarator}
+use Rattle.c_tree.specs.declared.declaration.External.{External}
 use Rattle.c_tree.specs.declared.declaration.Tree.{Tree}
 use Rattle.c_tree.specs.declared.scope.Entry.{Entry}
 use Rattle.c_tree.specs.Places.{Place, At}
@@ -13,10 +14,10 @@ use Rattle.c_tree.specs.SpellsText.{Spells, kinds_of, beginning}
 use Rattle.c_parser.specs.Kinds.{kind_at}
 use Rattle.c_parser.specs.Marks as sign
 use Rattle.c_parser.specs.Marks.{mark_at}
-use Rattle.c_parser.specs.Reader.{Outcome, Gives}
+use Rattle.c_parser.specs.Reader.{Outcome, Gives, Refuses}
 use Rattle.c_parser.specs.ReadTypes.{Titles}
 use Rattle.c_parser.specs.ReadText.{text}
-use Rattle.c_parser.specs.Laws.{OneExpression, OneTypeName, OneDeclarator, OneDeclaration, OneStatement, OneExternal, OneTree, IsRead, ReadsWhatIsSpelled}
+use Rattle.c_parser.specs.Laws.{OneExpression, OneTypeName, OneDeclarator, OneDeclaration, OneStatement, OneExternal, OneTree, IsRead, ReadsWhatIsSpelled, RefusesTheRest}
 use Rattle.c_parser.proofs.Depths.{length-kinds_of}
 use Rattle.c_parser.proofs.MarkLaws.{mark_means}
 use Rattle.c_parser.proofs.Complete.{Enough, exact}
@@ -107,6 +108,16 @@ read_spelled tokens tree t =
 
 pub reads_what_is_spelled : ReadsWhatIsSpelled
 reads_what_is_spelled tokens tree = (λ s. (s.end, spelled_read tokens tree s), λ t. read_spelled tokens tree t)
+
+refused : (tokens : List Token) → text (kinds_of tokens) ≡ Refuses → (tree : Tree) → Spells tokens tree → ⊥
+refused tokens e tree s = let f = spelled_read tokens tree s in let z = sym e ∙ f in cc
+
+refuses_by : (tokens : List Token) → ((tree : Tree) → Spells tokens tree → ⊥) → (o : Outcome (List External)) → text (kinds_of tokens) ≡ o → o ≡ Refuses
+refuses_by tokens h (Gives xs q) e = absurd (h (record { externals = xs }) (read_spelled tokens (record { externals = xs }) (q, e)))
+refuses_by tokens h Refuses e = refl
+
+pub refuses_the_rest : RefusesTheRest
+refuses_the_rest tokens = (λ e. refused tokens e, λ h. refuses_by tokens h (text (kinds_of tokens)) refl)
 
 pub one_tree : OneTree
 one_tree tokens x y s t =

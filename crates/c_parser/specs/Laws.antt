@@ -17,7 +17,7 @@ use Rattle.c_tree.specs.SpellsStatements.{IsDeclaration, IsStatement}
 use Rattle.c_tree.specs.SpellsText.{IsExternal, Spells, kinds_of}
 use Rattle.c_parser.specs.Kinds.{kind_at, suffix, below}
 use Rattle.c_parser.specs.Marks.{mark_at, extends_declarator}
-use Rattle.c_parser.specs.Reader.{Gives}
+use Rattle.c_parser.specs.Reader.{Gives, Refuses}
 use Rattle.c_parser.specs.ReadText.{text}
 
 -- the next token goes on with no expression of this level
@@ -63,3 +63,7 @@ IsRead tokens tree = (q : Place) × (text (kinds_of tokens) ≡ Gives tree.exter
 -- what is spelled is what is read
 abbrev pub ReadsWhatIsSpelled : Type 0
 ReadsWhatIsSpelled = (tokens : List Token) (tree : Tree) → Spells tokens tree ↔ IsRead tokens tree
+
+-- the reader refuses where no tree is spelled, and only there
+abbrev pub RefusesTheRest : Type 0
+RefusesTheRest = (tokens : List Token) → (text (kinds_of tokens) ≡ Refuses) ↔ ((tree : Tree) → Spells tokens tree → ⊥)

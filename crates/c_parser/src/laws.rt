@@ -9,6 +9,7 @@ ghost use Rattle.c_parser.specs.Laws.{
   OneTree,
   OneTypeName,
   ReadsWhatIsSpelled,
+  RefusesTheRest,
 };
 
 /// Tokens spell one expression of a level, where the next token goes on with none, and one type name before a `)`.
@@ -33,4 +34,5 @@ pub fn one_statement()
 pub fn one_tree()
     ensures one { OneTree }
     ensures read { ReadsWhatIsSpelled }
+    ensures refused { RefusesTheRest }
 {}
