@@ -1,5 +1,5 @@
 -- How deep a text is nested, one token further.
-use Rattle.std.proofs.Common.{◌≡◌, ℕ, zero, suc, ◌+◌, ◌<◌, ◌≤◌, List, [], ◌∷◌, length, map, Option, Some, None, refl, ap, ◌∙◌, sym, subst, arith, add-one, inl, inr, sum}
+use Rattle.std.proofs.Common.{◌≡◌, ℕ, suc, ◌+◌, ◌<◌, ◌≤◌, List, [], ◌∷◌, length, Option, Some, refl, ap, ◌∙◌, sym, subst, arith, add-one, inl, inr}
 use Rattle.std.specs.Prelude.{slice_get, ◌⊎◌}
 use Rattle.std.specs.Prelude.{option_map}
 use Rattle.std.proofs.lemmas.Option.{slice_get-map}
@@ -7,7 +7,7 @@ use Rattle.std.proofs.lemmas.List.{length-map}
 use Rattle.std.proofs.lemmas.Bool.{cases_lt}
 use Rattle.c_model.specs.declared.token.TokenKind.{TokenKind}
 use Rattle.c_model.specs.declared.token.Token.{Token}
-use Rattle.c_tree.specs.Nesting.{counts_after, counts_on, counts_then, measure, depth_after, IsFirstDeeper}
+use Rattle.c_tree.specs.Nesting.{counts_after, counts_on, counts_then, measure, depth_after}
 use Rattle.c_tree.specs.SpellsText.{kinds_of}
 
 counts_after-zero : (kinds : List TokenKind) → counts_after kinds 0 ≡ 0 ∷ []

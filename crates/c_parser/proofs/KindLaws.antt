@@ -1,5 +1,5 @@
 -- What a token is for an expression says which token it is.
-use Rattle.std.proofs.Common.{◌≡◌, ℕ, ◌+◌, ◌<◌, ◌≤◌, Option, Some, None, refl, ap, ◌∙◌, sym, arith, inl, inr}
+use Rattle.std.proofs.Common.{◌≡◌, ◌+◌, ◌≤◌, Option, Some, None, refl, ap, ◌∙◌, sym, arith, inl, inr}
 use Rattle.std.specs.Prelude.{◌⊎◌}
 use Rattle.c_model.specs.declared.token.TokenKind.{TokenKind}
 use Rattle.c_model.specs.declared.token.TokenKind.TheVariants as token

@@ -1,6 +1,6 @@
 -- What the reader reads is spelled by the tokens.
-use Rattle.std.proofs.Common.{◌≡◌, ℕ, zero, suc, ◌+◌, ◌-◌, ◌<◌, ◌≤◌, List, [], ◌∷◌, Option, Some, None, Bool, true, false, refl, ap, ◌∙◌, sym, subst, arith, inl, inr}
-use Rattle.std.specs.Prelude.{nat_le, if◌then◌else◌, ◌⊎◌}
+use Rattle.std.proofs.Common.{◌≡◌, ℕ, zero, suc, ◌+◌, ◌-◌, ◌<◌, ◌≤◌, List, [], ◌∷◌, Bool, true, false, refl, ◌∙◌, sym, subst, arith, inl, inr}
+use Rattle.std.specs.Prelude.{nat_le}
 use Rattle.c_model.specs.declared.token.TokenKind.{TokenKind}
 use Rattle.c_tree.specs.declared.expression.Expression.{Expression}
 use Rattle.c_tree.specs.declared.expression.Expression.TheVariants as tree
@@ -9,10 +9,11 @@ use Rattle.c_tree.specs.Places.{Place, next, names_type}
 use Rattle.c_tree.specs.Signs.{level}
 use Rattle.c_tree.specs.Spells as grammar
 use Rattle.c_tree.specs.Spells.{IsExpression, AreAssignments, IsTypeName}
-use Rattle.c_parser.specs.Kinds.{kind_at, Suffix, Infix, Assigns, Asks, Commas, Subscripts, Calls, Selects, Points, Steps, ClosesRound, ClosesSquare, Colons, NoSuffix, suffix, needs, below, goes_on, Prefix, Names, Constants, Texts, Opens, StepsFirst, Operates, Sizes, NoPrefix, prefix, begins_type}
-use Rattle.c_parser.specs.Reader.{Outcome, Gives, Refuses, and_then, where_round, where_square, where_colon, where_name, Reader, Continues, Lists, Types, items, items_after, call_of, choice_of, suffix_taken, bracketed, sized_by, sized, prefix_taken, TypeReader, read, more}
-use Rattle.c_parser.proofs.KindLaws.{suffix_means, prefix_means, level_low, level_high}
-use Rattle.c_parser.proofs.Steps.{then_gives, gives_as, round_gives, square_gives, colon_gives, name_gives, if_gives, unless_gives, le_true, Decided, decide, more_ends, more_none, more_goes, read_none, read_on, items_none, items_on, goes_true}
+use Rattle.c_parser.specs.Kinds.{kind_at, Suffix, Infix, Assigns, Asks, Commas, Subscripts, Calls, Selects, Points, Steps, ClosesRound, ClosesSquare, Colons, NoSuffix, suffix, needs, below, Prefix, Names, Constants, Texts, Opens, StepsFirst, Operates, Sizes, NoPrefix, prefix, begins_type}
+use Rattle.c_parser.specs.Reader.{Outcome, Gives, and_then, where_round, where_square, Reader, Continues, Lists, Types, items, items_after, call_of, choice_of, suffix_taken, bracketed, sized_by, sized, prefix_taken}
+use Rattle.c_parser.specs.Readers.{read, more, types}
+use Rattle.c_parser.proofs.KindLaws.{suffix_means, prefix_means, level_high}
+use Rattle.c_parser.proofs.Steps.{then_gives, gives_as, round_gives, square_gives, colon_gives, name_gives, if_gives, unless_gives, le_true, Decided, more_ends, more_none, more_goes, items_none, items_on, goes_true}
 
 -- ---- levels
 
@@ -191,39 +192,21 @@ prefix_sound kinds rd types go ird it igo least p r y NoPrefix le e h = cc
 
 -- ---- the reader
 
--- what reads type names with a reader of expressions
-abbrev pub IsSoundTypeReader : List TokenKind → TypeReader → Type 0
-IsSoundTypeReader kinds types = (n : ℕ) (rd : Reader) → IsSoundReader kinds rd → IsSoundTypes kinds (types n rd)
-
 ends_sound : (kinds : List TokenKind) (reached least : ℕ) (p q r : Place) (x y : Expression) (o : Outcome Expression) → o ≡ Gives x q → o ≡ Gives y r → least ≤ reached
     → IsExpression kinds reached p q x → IsExpression kinds least p r y
 ends_sound kinds reached least p q r x y o a b le d = gives_as (λ z v. IsExpression kinds least p v z) x y q r (sym a ∙ b) (down kinds least reached p q x le d)
 
-more_sound_none : (kinds : List TokenKind) (types : TypeReader) (reached least : ℕ) (p q r : Place) (x y : Expression) → least ≤ reached → IsExpression kinds reached p q x
-    → more kinds types zero reached least x q ≡ Gives y r → Decided reached least (suffix (kind_at kinds q)) → IsExpression kinds least p r y
-more_sound_none kinds types reached least p q r x y le d h (inl g) =
-    let z = more_none kinds types reached least x q (goes_true reached least (suffix (kind_at kinds q)) g.0 g.1) in cc
-more_sound_none kinds types reached least p q r x y le d h (inr f) = ends_sound kinds reached least p q r x y _ (more_ends kinds types zero reached least x q f) h le d
+pub more_sound_none : (kinds : List TokenKind) (reached least : ℕ) (p q r : Place) (x y : Expression) → least ≤ reached → IsExpression kinds reached p q x
+    → more kinds zero reached least x q ≡ Gives y r → Decided reached least (suffix (kind_at kinds q)) → IsExpression kinds least p r y
+more_sound_none kinds reached least p q r x y le d h (inl g) =
+    let z = more_none kinds reached least x q (goes_true reached least (suffix (kind_at kinds q)) g.0 g.1) in cc
+more_sound_none kinds reached least p q r x y le d h (inr f) = ends_sound kinds reached least p q r x y _ (more_ends kinds zero reached least x q f) h le d
 
-more_sound_on : (kinds : List TokenKind) (types : TypeReader) (n : ℕ) → IsSoundReader kinds (read kinds types n) → IsSoundContinues kinds (more kinds types n)
+pub more_sound_on : (kinds : List TokenKind) (n : ℕ) → IsSoundReader kinds (read kinds n) → IsSoundContinues kinds (more kinds n)
     → (reached least : ℕ) (p q r : Place) (x y : Expression) → least ≤ reached → IsExpression kinds reached p q x
-    → more kinds types (suc n) reached least x q ≡ Gives y r → Decided reached least (suffix (kind_at kinds q)) → IsExpression kinds least p r y
-more_sound_on kinds types n ird igo reached least p q r x y le d h (inl g) =
-    let on = more_goes kinds types n reached least x q (suffix (kind_at kinds q)) refl (goes_true reached least (suffix (kind_at kinds q)) g.0 g.1) in
-    suffix_sound kinds (read kinds types n) (items kinds (read kinds types n) n) (more kinds types n) ird (items_sound kinds (read kinds types n) ird n) igo
+    → more kinds (suc n) reached least x q ≡ Gives y r → Decided reached least (suffix (kind_at kinds q)) → IsExpression kinds least p r y
+more_sound_on kinds n ird igo reached least p q r x y le d h (inl g) =
+    let on = more_goes kinds n reached least x q (suffix (kind_at kinds q)) refl (goes_true reached least (suffix (kind_at kinds q)) g.0 g.1) in
+    suffix_sound kinds (read kinds n) (items kinds (read kinds n) n) (more kinds n) ird (items_sound kinds (read kinds n) ird n) igo
     reached least p q r x y (suffix (kind_at kinds q)) g.0 g.1 refl d (sym on ∙ h)
-more_sound_on kinds types n ird igo reached least p q r x y le d h (inr f) = ends_sound kinds reached least p q r x y _ (more_ends kinds types (suc n) reached least x q f) h le d
-
--- what is read is spelled, where that holds of type names
-pub read_sound : (kinds : List TokenKind) (types : TypeReader) → IsSoundTypeReader kinds types → (n : ℕ)
-    → IsSoundReader kinds (read kinds types n) × IsSoundContinues kinds (more kinds types n)
-read_sound kinds types it zero = (
-  λ least p x q le h. let z = read_none kinds types least p in cc,
-  λ reached least p q r x y le d h. more_sound_none kinds types reached least p q r x y le d h (decide reached least (suffix (kind_at kinds q))),
-)
-read_sound kinds types it (suc n) =
-    let i = read_sound kinds types it n in (
-      λ least p x q le h. prefix_sound kinds (read kinds types n) (types n (read kinds types n)) (more kinds types n) i.0 (it n (read kinds types n) i.0) i.1
-          least p q x (prefix (kind_at kinds p)) le refl (sym (read_on kinds types n least p) ∙ h),
-      λ reached least p q r x y le d h. more_sound_on kinds types n i.0 i.1 reached least p q r x y le d h (decide reached least (suffix (kind_at kinds q))),
-    )
+more_sound_on kinds n ird igo reached least p q r x y le d h (inr f) = ends_sound kinds reached least p q r x y _ (more_ends kinds (suc n) reached least x q f) h le d

@@ -1,12 +1,13 @@
 -- One step of the reader, and what an outcome says of its parts.
-use Rattle.std.proofs.Common.{◌≡◌, ℕ, zero, suc, ◌+◌, ◌<◌, ◌≤◌, List, [], ◌∷◌, Option, Some, None, Bool, true, false, refl, ap, ◌∙◌, sym, subst, arith, inl, inr}
+use Rattle.std.proofs.Common.{◌≡◌, ℕ, zero, suc, ◌+◌, ◌<◌, ◌≤◌, List, Bool, true, false, refl, ap, ◌∙◌, sym, subst, arith, inl, inr}
 use Rattle.std.specs.Prelude.{nat_le, if◌then◌else◌, ◌&&◌, ◌⊎◌}
 use Rattle.std.proofs.lemmas.Bool.{le-leb, lt-leb, cases_lt}
 use Rattle.c_model.specs.declared.token.TokenKind.{TokenKind}
 use Rattle.c_tree.specs.declared.expression.Expression.{Expression}
-use Rattle.c_tree.specs.Places.{Place, next}
+use Rattle.c_tree.specs.Places.{Place}
 use Rattle.c_parser.specs.Kinds.{kind_at, Suffix, ClosesRound, ClosesSquare, Colons, suffix, needs, below, goes_on, Prefix, Names, prefix}
-use Rattle.c_parser.specs.Reader.{Outcome, Gives, Refuses, and_then, where_round, where_square, where_colon, where_name, Reader, Continues, Lists, items, items_after, suffix_taken, prefix_taken, TypeReader, read, more}
+use Rattle.c_parser.specs.Reader.{Outcome, Gives, Refuses, and_then, where_round, where_square, where_colon, where_name, Reader, items, items_after, suffix_taken, prefix_taken}
+use Rattle.c_parser.specs.Readers.{read, more, types}
 
 -- ---- outcomes
 
@@ -85,35 +86,35 @@ decide reached least s = decide_by reached least s (cases_lt least (below s)) (c
 
 -- ---- the reader
 
-pub more_ends : (kinds : List TokenKind) (types : TypeReader) (n reached least : ℕ) (x : Expression) (q : Place)
-    → goes_on reached least (suffix (kind_at kinds q)) ≡ false → more kinds types n reached least x q ≡ Gives x q
+pub more_ends : (kinds : List TokenKind) (n reached least : ℕ) (x : Expression) (q : Place)
+    → goes_on reached least (suffix (kind_at kinds q)) ≡ false → more kinds n reached least x q ≡ Gives x q
 unfolding more
-more_ends kinds types zero reached least x q e = ap (λ b. if b then Refuses else Gives x q) e
-more_ends kinds types (suc n) reached least x q e =
-    ap (λ b. if b then suffix_taken kinds (read kinds types n) (items kinds (read kinds types n) n) (more kinds types n) least x q (suffix (kind_at kinds q)) else Gives x q) e
+more_ends kinds zero reached least x q e = ap (λ b. if b then Refuses else Gives x q) e
+more_ends kinds (suc n) reached least x q e =
+    ap (λ b. if b then suffix_taken kinds (read kinds n) (items kinds (read kinds n) n) (more kinds n) least x q (suffix (kind_at kinds q)) else Gives x q) e
 
-pub more_none : (kinds : List TokenKind) (types : TypeReader) (reached least : ℕ) (x : Expression) (q : Place)
-    → goes_on reached least (suffix (kind_at kinds q)) ≡ true → more kinds types zero reached least x q ≡ Refuses
+pub more_none : (kinds : List TokenKind) (reached least : ℕ) (x : Expression) (q : Place)
+    → goes_on reached least (suffix (kind_at kinds q)) ≡ true → more kinds zero reached least x q ≡ Refuses
 unfolding more
-more_none kinds types reached least x q e = ap (λ b. if b then Refuses else Gives x q) e
+more_none kinds reached least x q e = ap (λ b. if b then Refuses else Gives x q) e
 
-pub more_goes : (kinds : List TokenKind) (types : TypeReader) (n reached least : ℕ) (x : Expression) (q : Place) (s : Suffix) → suffix (kind_at kinds q) ≡ s
+pub more_goes : (kinds : List TokenKind) (n reached least : ℕ) (x : Expression) (q : Place) (s : Suffix) → suffix (kind_at kinds q) ≡ s
     → goes_on reached least s ≡ true
-    → more kinds types (suc n) reached least x q ≡ suffix_taken kinds (read kinds types n) (items kinds (read kinds types n) n) (more kinds types n) least x q s
+    → more kinds (suc n) reached least x q ≡ suffix_taken kinds (read kinds n) (items kinds (read kinds n) n) (more kinds n) least x q s
 unfolding more
-more_goes kinds types n reached least x q s e g =
-    ap (λ b. if b then suffix_taken kinds (read kinds types n) (items kinds (read kinds types n) n) (more kinds types n) least x q (suffix (kind_at kinds q)) else Gives x q)
+more_goes kinds n reached least x q s e g =
+    ap (λ b. if b then suffix_taken kinds (read kinds n) (items kinds (read kinds n) n) (more kinds n) least x q (suffix (kind_at kinds q)) else Gives x q)
     (ap (goes_on reached least) e ∙ g)
-    ∙ ap (suffix_taken kinds (read kinds types n) (items kinds (read kinds types n) n) (more kinds types n) least x q) e
+    ∙ ap (suffix_taken kinds (read kinds n) (items kinds (read kinds n) n) (more kinds n) least x q) e
 
-pub read_none : (kinds : List TokenKind) (types : TypeReader) (least : ℕ) (p : Place) → read kinds types zero least p ≡ Refuses
+pub read_none : (kinds : List TokenKind) (least : ℕ) (p : Place) → read kinds zero least p ≡ Refuses
 unfolding read
-read_none kinds types least p = refl
+read_none kinds least p = refl
 
-pub read_on : (kinds : List TokenKind) (types : TypeReader) (n least : ℕ) (p : Place)
-    → read kinds types (suc n) least p ≡ prefix_taken kinds (read kinds types n) (types n (read kinds types n)) (more kinds types n) least p (prefix (kind_at kinds p))
+pub read_on : (kinds : List TokenKind) (n least : ℕ) (p : Place)
+    → read kinds (suc n) least p ≡ prefix_taken kinds (read kinds n) (types kinds n) (more kinds n) least p (prefix (kind_at kinds p))
 unfolding read
-read_on kinds types n least p = refl
+read_on kinds n least p = refl
 
 pub items_none : (kinds : List TokenKind) (rd : Reader) (p : Place) → items kinds rd zero p ≡ Refuses
 unfolding items

@@ -12,7 +12,7 @@ use Rattle.c_tree.specs.declared.expression.BinaryOperator.TheVariants as binary
 use Rattle.c_tree.specs.declared.expression.AssignOperator.{AssignOperator}
 use Rattle.c_tree.specs.declared.expression.AssignOperator.TheVariants as assign
 use Rattle.c_tree.specs.Places.{Place, names_type}
-use Rattle.c_tree.specs.Signs.{step_sign, unary_sign, binary_sign, assign_sign, level}
+use Rattle.c_tree.specs.Signs.{level}
 
 abbrev pub kind_at : List TokenKind → Place → Option TokenKind
 kind_at kinds p = slice_get kinds p.at

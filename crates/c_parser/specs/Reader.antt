@@ -1,12 +1,12 @@
--- The reader of expressions as a function. It never goes back.
-use Rattle.std.specs.Prelude.{◌≡◌, ℕ, ℤ, zero, suc, ◌+◌, Bool, true, false, ◌&&◌, nat_le, List, [], ◌∷◌, Option, Some, None, if◌then◌else◌}
+-- What the reader of expressions does with a token. It never goes back.
+use Rattle.std.specs.Prelude.{ℕ, zero, suc, ◌+◌, Bool, true, false, nat_le, List, [], ◌∷◌, if◌then◌else◌}
 use Rattle.c_model.specs.declared.token.TokenKind.{TokenKind}
 use Rattle.c_tree.specs.declared.expression.Expression.{Expression}
 use Rattle.c_tree.specs.declared.expression.Expression.TheVariants as tree
 use Rattle.c_tree.specs.declared.expression.TypeName.{TypeName}
 use Rattle.c_tree.specs.Places.{Place, next, names_type}
 use Rattle.c_tree.specs.Signs.{level}
-use Rattle.c_parser.specs.Kinds.{kind_at, Suffix, Infix, Assigns, Asks, Commas, Subscripts, Calls, Selects, Points, Steps, ClosesRound, ClosesSquare, Colons, NoSuffix, suffix, goes_on, Prefix, Names, Constants, Texts, Opens, StepsFirst, Operates, Sizes, NoPrefix, prefix, begins_type}
+use Rattle.c_parser.specs.Kinds.{kind_at, Suffix, Infix, Assigns, Asks, Commas, Subscripts, Calls, Selects, Points, Steps, ClosesRound, ClosesSquare, Colons, NoSuffix, suffix, Prefix, Names, Constants, Texts, Opens, StepsFirst, Operates, Sizes, NoPrefix, prefix, begins_type}
 
 -- what was read and the place behind it, or nothing
 pub data Outcome (A : Type 0) : Type 0 where
@@ -110,22 +110,3 @@ prefix_taken kinds rd types go least p (StepsFirst step) = and_then (rd 14 (next
 prefix_taken kinds rd types go least p (Operates operator) = and_then (rd 13 (next p)) (λ x q. go 14 least (tree.Unary operator x p.at) q)
 prefix_taken kinds rd types go least p Sizes = sized kinds rd types go least p (prefix (kind_at kinds (next p)))
 prefix_taken kinds rd types go least p NoPrefix = Refuses
-
--- ---- the reader, over what reads type names with it
-
-abbrev pub TypeReader : Type 0
-TypeReader = ℕ → Reader → Types
-
-unfoldable mutual
-  -- an expression of this level or above; the number bounds the steps
-  pub read : List TokenKind → TypeReader → ℕ → Reader
-  read kinds types zero least p = Refuses
-  read kinds types (suc n) least p = prefix_taken kinds (read kinds types n) (types n (read kinds types n)) (more kinds types n) least p (prefix (kind_at kinds p))
-
-  -- what follows an operand
-  pub more : List TokenKind → TypeReader → ℕ → Continues
-  more kinds types zero reached least x q = if goes_on reached least (suffix (kind_at kinds q)) then Refuses else Gives x q
-  more kinds types (suc n) reached least x q =
-      if goes_on reached least (suffix (kind_at kinds q))
-      then suffix_taken kinds (read kinds types n) (items kinds (read kinds types n) n) (more kinds types n) least x q (suffix (kind_at kinds q))
-      else Gives x q

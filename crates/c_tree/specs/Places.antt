@@ -3,10 +3,7 @@ use Rattle.std.specs.Prelude.{◌≡◌, ℕ, ◌+◌, Bool, true, false, List, 
 use Rattle.std.specs.Str.{bytes_eq}
 use Rattle.c_model.specs.declared.token.TokenKind.{TokenKind}
 
--- a declared ordinary identifier (6.2.3): whether it is a typedef name (6.7.8)
-pub record Entry : Type 0 where
-  pub name : List ℕ
-  pub is_type : Bool
+pub use Rattle.c_tree.specs.declared.scope.Entry.{Entry}
 
 -- the number of the next token; and what is declared there, block by block, the innermost block and the newest
 -- declaration first (6.2.1)

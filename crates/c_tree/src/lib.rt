@@ -1,8 +1,10 @@
 //! The trees of C texts, and the tokens that spell them.
 #![tactic(auto)]
 
+mod copied;
 mod declaration;
 mod expression;
+mod scope;
 mod statement;
 
 pub use declaration::{
@@ -13,4 +15,5 @@ pub use expression::{
     Member, MemberLine, Parameter, Qualifier, Specifier, Step, StorageWord, TypeName,
     UnaryOperator,
 };
+pub use scope::Entry;
 pub use statement::{BlockItem, Branch, ForStart, Statement};

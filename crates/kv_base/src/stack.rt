@@ -53,6 +53,13 @@ impl<T> Stack<T> {
         self.items.last()
     }
 
+    /// The elements, the top last.
+    pub fn as_slice(&self) -> &[T]
+        ensures { reverse result.now ≡ self.now }
+    {
+        self.items.as_slice()
+    }
+
     /// Takes the top element away.
     pub fn pop(&mut self) -> Option<T>
         ensures { MatchOption result ((self.old ≡ []) × (self.new ≡ [])) (λ top. self.old ≡ top ∷ self.new) }

@@ -29,6 +29,7 @@ fn stacks_give_the_last_item_first(rt: HostRuntime) -> Result<(), Fail> {
     stack.push(2)?;
     assert_eq!(rt; stack.len(), 2);
     assert_eq!(rt; stack.top(), Some(&2));
+    assert_eq!(rt; stack.as_slice(), [1u8, 2].as_slice());
     assert_eq!(rt; stack.pop(), Some(2));
     assert_eq!(rt; stack.into_vec().as_slice(), [1u8].as_slice());
     Ok(())
