@@ -1,9 +1,9 @@
 -- Products as numbers of a width, and whether they fit.
-use Rattle.std.proofs.Common.{ℕ, zero, suc, ◌≡◌, ◌<◌, ◌≤◌, ◌+◌, ◌-◌, ◌*◌, ◌^◌, ◌==◌, Bool, true, false, not, ◌&&◌, ◌||◌, List, length, take, get_or, ℤ, pos, negsuc, neg_ℤ, ◌+ℤ◌, ◌-ℤ◌, ◌*ℤ◌, ◌≤ℤ◌, ◌<ℤ◌, IsTrue, ◌↔◌, if◌then◌else◌, refl, sym, ap, subst, ◌∙◌, arith, inl, inr, ◌⊎◌, true≢false}
+use Rattle.std.proofs.Common.{ℕ, zero, suc, ◌≡◌, ◌<◌, ◌≤◌, ◌+◌, ◌-◌, ◌*◌, ◌^◌, ◌==◌, Bool, true, false, not, ◌&&◌, ◌||◌, List, length, take, get_or, ℤ, pos, neg_ℤ, ◌+ℤ◌, ◌-ℤ◌, ◌*ℤ◌, ◌≤ℤ◌, ◌<ℤ◌, IsTrue, ◌↔◌, if◌then◌else◌, refl, sym, ap, ◌∙◌, arith, inl, inr, ◌⊎◌, true≢false}
 use Rattle.std.proofs.lemmas.Int.{ints}
 use Rattle.std.proofs.lemmas.Bool.{cases_eq, eq-eqb, ne_eqb}
 use Rattle.kv_num.specs.Bits.{differ}
-use Rattle.kv_shape.specs.Shape.{below_at, InShape, wrap_at}
+use Rattle.kv_shape.specs.Shape.{InShape, wrap_at}
 use Rattle.kv_num.proofs.Ring.{times-neg}
 use Rattle.kv_shape.proofs.Shapes.{wrap_at-congruent}
 use Rattle.kv_clause.specs.Literals.{is_true, complement_of}
@@ -13,7 +13,7 @@ use Rattle.word_gates.proofs.Numbers.{number-bound, number_top, full, half, low_
 use Rattle.word_gates.proofs.Totals.{as_shape}
 use lib.IntN.{*ℤ_comm}
 
-neg_as : (m : ℕ) → neg_ℤ (pos m) ≡ pos 0 -ℤ pos m
+pub neg_as : (m : ℕ) → neg_ℤ (pos m) ≡ pos 0 -ℤ pos m
 neg_as m = omega (arith, ints)
 
 neg_neg : (m : ℕ) → neg_ℤ (neg_ℤ (pos m)) ≡ pos m

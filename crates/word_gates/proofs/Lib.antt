@@ -6,3 +6,5 @@ pub mod Orders
 pub mod Exact
 pub mod Rows
 pub mod Totals
+pub mod Moves
+pub mod Divisions

@@ -1,8 +1,7 @@
-use Rattle.std.proofs.Common.{arith, ◌≡◌, ◌+◌, ◌*◌, ◌^◌, ℕ, Bool, length, ap, sym, ◌∙◌, ◌*ℤ◌, refl, false}
+use Rattle.std.proofs.Common.{arith, ◌≡◌, ◌+◌, ◌*◌, ◌^◌, length, ap, sym, ◌∙◌, ◌*ℤ◌, false}
 use Rattle.kv_num.specs.Bits.{differ}
-use Rattle.kv_shape.specs.Shape.{wrap_at, InShape}
+use Rattle.kv_shape.specs.Shape.{wrap_at}
 use Rattle.kv_clause.specs.Literals.{is_true}
-use Rattle.gate_core.specs.Table.{Agrees}
 use Rattle.word_gates.specs.Words.{number, signed_number, word_value}
 use Rattle.word_gates.proofs.Growth.{Grows-trans}
 use Rattle.word_gates.proofs.Totals.{same_shape_at}
