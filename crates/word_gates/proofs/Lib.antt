@@ -8,3 +8,4 @@ pub mod Rows
 pub mod Totals
 pub mod Moves
 pub mod Divisions
+pub mod Signed

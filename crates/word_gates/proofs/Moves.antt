@@ -250,7 +250,7 @@ signed_left false false tr la lr p m s b n r eb es ha hr hm en er el em =
     by true y lr p b s eb es h e = (λ f. absurd (true≢false (sym f)), λ z w. absurd (omega (arith, ints, w.1)))
     by false y lr p b s eb es h e = (λ f. (omega (arith, ints), (omega (arith, ints), omega (arith, ints))), λ z w. refl)
 
-top_same : (a : List ℕ) (n x y : ℕ) → n < length a → get_or a n x ≡ get_or a n y
+pub top_same : (a : List ℕ) (n x y : ℕ) → n < length a → get_or a n x ≡ get_or a n y
 top_same [] n x y h = absurd (omega arith)
 top_same (l ∷ ls) zero x y h = refl
 top_same (l ∷ ls) (suc n) x y h = top_same ls n x y (omega arith)

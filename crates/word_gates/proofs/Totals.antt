@@ -231,7 +231,7 @@ module _ (A : ℕ → Bool) (w n : ℕ) (some : w ≡ n + 1) (a b t : List ℕ) 
   double : 2 ^ w ≡ 2 * 2 ^ (w - 1)
   double = let e : w - 1 ≡ n = omega arith in ap (λ k. 2 ^ k) some ∙ (pow_next n ∙ ap (λ k. 2 * 2 ^ k) (sym e))
 
-  turned_signed : word_value A true t ≡ (pos 0 -ℤ word_value A true b) -ℤ pos 1
+  pub turned_signed : word_value A true t ≡ (pos 0 -ℤ word_value A true b) -ℤ pos 1
   unfolding word_value
   turned_signed =
       let c = value_congruent A w true (pos 0) b t lb lt turned b lb in

@@ -10,6 +10,7 @@ mod parts;
 mod products;
 mod quotients;
 mod shifts;
+mod signed_products;
 mod signs;
 mod sums;
 mod word;

@@ -220,7 +220,7 @@ fn lower_where(
 }
 
 /// A word above some copies of a literal.
-fn above(alloc: Global, fill: Lit, copies: usize, word: &[Lit]) -> Result<Word, NoMemory>
+pub(crate) fn above(alloc: Global, fill: Lit, copies: usize, word: &[Lit]) -> Result<Word, NoMemory>
     ensures { IfOk result (λ w. w ≡ replicate copies fill ++ word.now) }
 {
     let mut whole = Sequence::new(alloc);
