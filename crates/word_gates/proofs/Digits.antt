@@ -1,5 +1,5 @@
 -- Sums and choices of single bits.
-use Rattle.std.proofs.Common.{ℕ, ◌≡◌, ◌+◌, ◌*◌, Bool, true, false, not, ◌&&◌, ◌||◌, if◌then◌else◌, refl, sym, ap, ◌∙◌}
+use Rattle.std.proofs.Common.{ℕ, ◌≡◌, ◌+◌, ◌*◌, Bool, true, false, not, ◌&&◌, ◌||◌, if◌then◌else◌, refl, ap, ◌∙◌}
 use Rattle.kv_num.specs.Bits.{differ}
 use Rattle.kv_clause.specs.Literals.{complement_of, is_true}
 use Rattle.kv_clause.proofs.Truths.{is_true-complement}

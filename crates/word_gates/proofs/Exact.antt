@@ -1,9 +1,9 @@
 -- Products as numbers of a width, and whether they fit.
-use Rattle.std.proofs.Common.{ℕ, zero, suc, ◌≡◌, ◌<◌, ◌≤◌, ◌+◌, ◌-◌, ◌*◌, ◌^◌, ◌==◌, Bool, true, false, not, ◌&&◌, ◌||◌, List, length, take, get_or, ℤ, pos, negsuc, neg_ℤ, ◌+ℤ◌, ◌-ℤ◌, ◌*ℤ◌, ◌≤ℤ◌, ◌<ℤ◌, IsTrue, ◌↔◌, if◌then◌else◌, refl, sym, ap, subst, ◌∙◌, arith, inl, inr, ◌⊎◌, true≢false}
+use Rattle.std.proofs.Common.{ℕ, zero, suc, ◌≡◌, ◌<◌, ◌≤◌, ◌+◌, ◌-◌, ◌*◌, ◌^◌, ◌==◌, Bool, true, false, not, ◌&&◌, ◌||◌, List, length, take, get_or, ℤ, pos, neg_ℤ, ◌+ℤ◌, ◌-ℤ◌, ◌*ℤ◌, ◌≤ℤ◌, ◌<ℤ◌, IsTrue, ◌↔◌, if◌then◌else◌, refl, sym, ap, ◌∙◌, arith, inl, inr, ◌⊎◌, true≢false}
 use Rattle.std.proofs.lemmas.Int.{ints}
 use Rattle.std.proofs.lemmas.Bool.{cases_eq, eq-eqb, ne_eqb}
 use Rattle.kv_num.specs.Bits.{differ}
-use Rattle.kv_shape.specs.Shape.{below_at, InShape, wrap_at}
+use Rattle.kv_shape.specs.Shape.{InShape, wrap_at}
 use Rattle.kv_num.proofs.Ring.{times-neg}
 use Rattle.kv_shape.proofs.Shapes.{wrap_at-congruent}
 use Rattle.kv_clause.specs.Literals.{is_true, complement_of}
@@ -13,7 +13,7 @@ use Rattle.word_gates.proofs.Numbers.{number-bound, number_top, full, half, low_
 use Rattle.word_gates.proofs.Totals.{as_shape}
 use lib.IntN.{*ℤ_comm}
 
-neg_as : (m : ℕ) → neg_ℤ (pos m) ≡ pos 0 -ℤ pos m
+pub neg_as : (m : ℕ) → neg_ℤ (pos m) ≡ pos 0 -ℤ pos m
 neg_as m = omega (arith, ints)
 
 neg_neg : (m : ℕ) → neg_ℤ (neg_ℤ (pos m)) ≡ pos m
@@ -143,17 +143,3 @@ in_range_plain A signed more top word neg out es eout =
     or_false : (b : Bool) → (b || false) ≡ b
     or_false true = refl
     or_false false = refl
-
--- the number of a product's halves, from what they and the operands were read from
-pub halves : (A : ℕ → Bool) (lows highs low high xs ys x y : List ℕ) → lows ≡ low → highs ≡ high → xs ≡ x → ys ≡ y → length low ≡ length ys → number A low + 2 ^ length ys * number A high ≡ number A xs * number A ys
-    → number A lows + 2 ^ length lows * number A highs ≡ number A x * number A y
-halves A lows highs low high xs ys x y el eh ex ey len e =
-    ap (λ z. number A z + 2 ^ length z * number A highs) el
-    ∙ (ap (λ z. number A low + 2 ^ length low * number A z) eh
-    ∙ (ap (λ z. number A low + 2 ^ z * number A high) len
-    ∙ (e ∙ (ap (λ z. number A z * number A ys) ex ∙ ap (λ z. number A x * number A z) ey))))
-
--- the exact product, from the signs and absolute values of the operands
-pub exact_product : (va vb : ℤ) (sx sy neg : Bool) (nx ny z : ℕ) → va ≡ signed_number sx nx → vb ≡ signed_number sy ny → neg ≡ differ sx sy → z ≡ nx * ny → signed_number neg z ≡ va *ℤ vb
-exact_product va vb sx sy neg nx ny z ea eb en ez =
-    ap (λ b. signed_number b z) en ∙ (ap (signed_number (differ sx sy)) ez ∙ (sym (signed_product sx sy nx ny) ∙ (ap (λ x. x *ℤ signed_number sy ny) (sym ea) ∙ ap (λ x. va *ℤ x) (sym eb))))

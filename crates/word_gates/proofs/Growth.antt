@@ -1,11 +1,11 @@
 -- Literals and truths of a table that has grown.
-use Rattle.std.proofs.Common.{ℕ, ◌≡◌, ◌<◌, ◌≤◌, ◌/◌, ◌∷◌, ◌++◌, [], List, Bool, true, false, not, if◌then◌else◌, length, take, drop, min, refl, sym, ap, subst, ◌∙◌, arith}
+use Rattle.std.proofs.Common.{ℕ, zero, suc, ◌≡◌, ◌<◌, ◌∷◌, ◌++◌, [], List, Bool, true, false, not, if◌then◌else◌, length, take, drop, sym, ap, subst, ◌∙◌, arith}
 use Rattle.std.proofs.lemmas.List.{take-take}
 use Rattle.std.proofs.lemmas.List.Elements.{All-push, All-tail}
 use Rattle.kv_clause.specs.Literals.{variable_of, complement_of, is_true, AreBelow}
 use Rattle.kv_clause.proofs.Truths.{complement_variable, is_true-complement}
 use Rattle.gate_core.specs.declared.gate.Gate.{Gate}
-use Rattle.gate_core.specs.Table.{Agrees, IsLitOf, Grows}
+use Rattle.gate_core.specs.Table.{IsLitOf, Grows}
 use Rattle.word_gates.specs.Words.{IsWordOf}
 
 pub Grows-trans : (a b c : List Gate) → Grows a b → Grows b c → Grows a c
@@ -37,3 +37,11 @@ literal_grown old new l g is = omega (arith, is, g.longer)
 pub word_rest : (gs : List Gate) (ws : List ℕ) → IsWordOf gs ws → IsWordOf gs (drop 1 ws)
 word_rest gs [] w = w
 word_rest gs (l ∷ ls) w = All-tail (IsLitOf gs) l ls w
+
+-- a word with a new lowest literal
+pub word_below : (gs : List Gate) (ws new : List ℕ) (l : ℕ) → new ≡ l ∷ ws → IsWordOf gs ws → IsLitOf gs l → IsWordOf gs new
+word_below gs ws new l e w i = subst (IsWordOf gs) (sym e) by
+  where
+    by : IsWordOf gs (l ∷ ws)
+    by zero d h = i
+    by (suc k) d h = w k d (omega arith)

@@ -6,3 +6,6 @@ pub mod Orders
 pub mod Exact
 pub mod Rows
 pub mod Totals
+pub mod Moves
+pub mod Divisions
+pub mod Signed

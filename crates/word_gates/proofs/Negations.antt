@@ -1,14 +1,14 @@
 -- Signs and absolute values of words.
-use Rattle.std.proofs.Common.{ℕ, ◌≡◌, ◌<◌, ◌≤◌, ◌+◌, ◌-◌, ◌*◌, ◌^◌, ◌==◌, Bool, true, false, not, ◌&&◌, ◌||◌, List, [], ◌∷◌, ◌++◌, length, take, get_or, ℤ, pos, negsuc, ◌+ℤ◌, ◌-ℤ◌, ◌*ℤ◌, ◌≤ℤ◌, ◌<ℤ◌, if◌then◌else◌, refl, sym, ap, subst, ◌∙◌, arith, inl, inr, ◌⊎◌, true≢false}
+use Rattle.std.proofs.Common.{ℕ, ◌≡◌, ◌<◌, ◌+◌, ◌-◌, ◌*◌, ◌^◌, ◌==◌, Bool, true, false, not, ◌&&◌, ◌||◌, List, [], ◌∷◌, ◌++◌, length, take, get_or, ℤ, pos, ◌+ℤ◌, ◌-ℤ◌, ◌≤ℤ◌, if◌then◌else◌, refl, sym, ap, ◌∙◌, arith}
 use Rattle.std.proofs.lemmas.Int.{ints}
 use Rattle.std.proofs.lemmas.Nat.{pow_pos}
-use Rattle.std.proofs.lemmas.Bool.{cases_eq, eq-eqb, ne_eqb}
+use Rattle.std.proofs.lemmas.Bool.{ne_eqb}
 use Rattle.kv_num.specs.Bits.{differ}
-use Rattle.kv_shape.specs.Shape.{below_at, InShape, wrap_at}
+use Rattle.kv_shape.specs.Shape.{below_at}
 use Rattle.kv_shape.proofs.Shapes.{range-wrap_at}
 use Rattle.kv_clause.specs.Literals.{is_true}
 use Rattle.word_gates.specs.Words.{bit, number, signed_number, word_value}
-use Rattle.word_gates.proofs.Numbers.{number-more, number-take, number-bound, number_top, full, half, pow_next, word_value-unsigned, word_value-signed}
+use Rattle.word_gates.proofs.Numbers.{number-more, number-take, number_top, full, pow_next, word_value-unsigned, word_value-signed}
 use Rattle.word_gates.proofs.Rows.{any_more}
 
 -- what each digit keeps, with s whether a digit so far is set
@@ -71,7 +71,7 @@ absolute v false na nw s e some f = by v na nw s e f
     by : (v : ℤ) (na nw s : ℕ) → v ≡ pos na -ℤ pos (s * 0) → nw ≡ na → v ≡ pos nw
     by v na nw s e g = omega (arith, ints)
 
-below_less : (w : ℕ) (signed : Bool) → 0 < w → below_at w signed < 2 ^ w
+pub below_less : (w : ℕ) (signed : Bool) → 0 < w → below_at w signed < 2 ^ w
 below_less w true h = let e : 2 ^ w ≡ 2 * 2 ^ (w - 1) = ap (λ k. 2 ^ k) (by w h) ∙ pow_next (w - 1) in let z = pow_pos (w - 1) in omega arith
   where
     by : (w : ℕ) → 0 < w → w ≡ (w - 1) + 1

@@ -1,10 +1,10 @@
 -- The numbers of words.
-use Rattle.std.proofs.Common.{ℕ, zero, suc, ◌≡◌, ◌<◌, ◌≤◌, ◌+◌, ◌-◌, ◌*◌, ◌^◌, Bool, true, false, not, List, [], ◌∷◌, ◌++◌, length, take, get_or, ℤ, pos, ◌+ℤ◌, ◌-ℤ◌, ◌*ℤ◌, ◌≤ℤ◌, ◌<ℤ◌, if◌then◌else◌, subst, refl, sym, ap, ◌∙◌, arith, length-take}
+use Rattle.std.proofs.Common.{ℕ, suc, ◌≡◌, ◌<◌, ◌≤◌, ◌+◌, ◌-◌, ◌*◌, ◌^◌, Bool, true, false, not, List, [], ◌∷◌, ◌++◌, length, take, get_or, ℤ, pos, ◌+ℤ◌, ◌-ℤ◌, ◌*ℤ◌, ◌≤ℤ◌, ◌<ℤ◌, if◌then◌else◌, subst, sym, ap, ◌∙◌, arith, length-take}
 use Rattle.std.proofs.lemmas.Int.{ints}
 use Rattle.std.proofs.lemmas.List.{take_more}
 use Rattle.std.proofs.Math.Seq.{take-length}
 use Rattle.std.proofs.lemmas.Grind.{common_steps}
-use Rattle.kv_shape.specs.Shape.{below_at, InShape, wrap_at}
+use Rattle.kv_shape.specs.Shape.{below_at, InShape}
 use Rattle.kv_shape.proofs.Shapes.{wrap_at_unique}
 use Rattle.kv_clause.specs.Literals.{is_true, complement_of}
 use Rattle.kv_clause.proofs.Truths.{is_true-complement}

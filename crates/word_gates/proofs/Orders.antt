@@ -1,5 +1,5 @@
 -- Choices and comparisons of words.
-use Rattle.std.proofs.Common.{ℕ, ◌≡◌, ◌<◌, ◌≤◌, ◌+◌, ◌*◌, ◌^◌, ◌==◌, nat_lt, Bool, true, false, not, ◌&&◌, List, [], ◌∷◌, ◌++◌, length, take, get_or, ℤ, pos, ◌+ℤ◌, ◌<ℤ◌, IsTrue, ◌↔◌, if◌then◌else◌, subst, refl, sym, ap, ◌∙◌, arith, inl, inr, ◌⊎◌}
+use Rattle.std.proofs.Common.{ℕ, ◌≡◌, ◌<◌, ◌≤◌, ◌+◌, ◌*◌, ◌^◌, ◌==◌, nat_lt, Bool, true, false, not, ◌&&◌, List, [], ◌∷◌, ◌++◌, length, take, get_or, ℤ, pos, ◌+ℤ◌, ◌<ℤ◌, IsTrue, ◌↔◌, if◌then◌else◌, refl, sym, ap, ◌∙◌, arith, inl, inr, ◌⊎◌}
 use Rattle.std.proofs.lemmas.Int.{ints}
 use Rattle.std.proofs.lemmas.Bool.{cases_eq, eq-eqb, ne_eqb}
 use Rattle.std.proofs.lemmas.Bool.Decides.{nat_tests}
@@ -7,7 +7,7 @@ use Rattle.std.proofs.lemmas.Grind.{common_steps}
 use Rattle.kv_num.specs.Bits.{differ}
 use Rattle.kv_clause.specs.Literals.{is_true, complement_of}
 use Rattle.kv_clause.proofs.Truths.{is_true-complement}
-use Rattle.word_gates.specs.Words.{bit, number, word_value}
+use Rattle.word_gates.specs.Words.{bit, number}
 use Rattle.word_gates.proofs.Numbers.{number-more, number-take, number-take_bound}
 
 chosen_digit : (t : Bool) (p w n na nb na2 nb2 : ℕ) (d x y : Bool) → n ≡ w + p * bit d → na2 ≡ na + p * bit x → nb2 ≡ nb + p * bit y → w ≡ (if t then na else nb) → d ≡ (if t then x else y) → n ≡ (if t then na2 else nb2)

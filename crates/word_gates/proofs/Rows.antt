@@ -1,10 +1,10 @@
 -- Products by rows, and quotients by digits.
-use Rattle.std.proofs.Common.{ℕ, zero, suc, ◌≡◌, ◌<◌, ◌≤◌, ◌+◌, ◌-◌, ◌*◌, ◌^◌, ◌==◌, Bool, true, false, not, ◌&&◌, ◌||◌, List, [], ◌∷◌, ◌++◌, length, take, drop, get_or, refl, sym, ap, subst, ◌∙◌, arith, inl, inr, ◌⊎◌, length-drop, drop-cons}
+use Rattle.std.proofs.Common.{ℕ, ◌≡◌, ◌<◌, ◌+◌, ◌*◌, ◌^◌, ◌==◌, Bool, true, false, not, ◌&&◌, ◌||◌, List, [], ◌∷◌, ◌++◌, length, take, drop, get_or, refl, sym, ap, ◌∙◌, arith}
 use Rattle.std.proofs.lemmas.Nat.{pow_pos}
-use Rattle.std.proofs.lemmas.Bool.{cases_eq, eq-eqb, ne_eqb}
+use Rattle.std.proofs.lemmas.Bool.{ne_eqb}
 use Rattle.kv_clause.specs.Literals.{is_true}
 use Rattle.word_gates.specs.Words.{bit, number}
-use Rattle.word_gates.proofs.Numbers.{number-more, number-take, number-push, pow_next}
+use Rattle.word_gates.proofs.Numbers.{number-more, number-take, pow_next}
 
 masked_bit : (x y : Bool) → bit (x && y) ≡ bit x * bit y
 masked_bit true true = refl

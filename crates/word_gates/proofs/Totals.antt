@@ -4,12 +4,12 @@ use Rattle.std.proofs.lemmas.Int.{ints}
 use Rattle.std.proofs.lemmas.Bool.{cases_lt}
 use Rattle.kv_num.specs.Bits.{differ}
 use Rattle.kv_shape.specs.Shape.{below_at, InShape, wrap_at}
-use Rattle.kv_num.proofs.Ring.{sums, sum_multiple, times-add, times-neg}
+use Rattle.kv_num.proofs.Ring.{sum_multiple, times-add, times-neg}
 use Rattle.kv_shape.proofs.Shapes.{wrap_at_congruent, wrap_at-congruent, wrap_at_unique, range-wrap_at}
 use Rattle.kv_clause.specs.Literals.{is_true, complement_of}
 use Rattle.kv_clause.proofs.Truths.{is_true-complement}
 use Rattle.word_gates.specs.Words.{bit, number, word_value}
-use Rattle.word_gates.proofs.Numbers.{number-more, number-take, number-bound, pow_next, bit-le, in_shape, word_value-unsigned, word_value-signed, number_top, half, full, low_bound}
+use Rattle.word_gates.proofs.Numbers.{number-more, number-take, number-bound, pow_next, word_value-unsigned, word_value-signed, number_top, half, full}
 
 digits : (p q w na nb ci d o x y c w2 na2 nb2 : ℕ) → q ≡ 2 * p → w2 ≡ w + p * d → na2 ≡ na + p * x → nb2 ≡ nb + p * y → w + p * c ≡ na + nb + ci → d + 2 * o ≡ x + y + c → w2 + q * o ≡ na2 + nb2 + ci
 digits p q w na nb ci d o x y c w2 na2 nb2 e1 e2 e3 e4 e5 e6 =
@@ -231,7 +231,7 @@ module _ (A : ℕ → Bool) (w n : ℕ) (some : w ≡ n + 1) (a b t : List ℕ) 
   double : 2 ^ w ≡ 2 * 2 ^ (w - 1)
   double = let e : w - 1 ≡ n = omega arith in ap (λ k. 2 ^ k) some ∙ (pow_next n ∙ ap (λ k. 2 * 2 ^ k) (sym e))
 
-  turned_signed : word_value A true t ≡ (pos 0 -ℤ word_value A true b) -ℤ pos 1
+  pub turned_signed : word_value A true t ≡ (pos 0 -ℤ word_value A true b) -ℤ pos 1
   unfolding word_value
   turned_signed =
       let c = value_congruent A w true (pos 0) b t lb lt turned b lb in

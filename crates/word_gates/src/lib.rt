@@ -8,11 +8,16 @@ mod bits;
 mod compares;
 mod parts;
 mod products;
+mod quotients;
+mod shifts;
+mod signed_products;
 mod signs;
 mod sums;
 mod word;
 
 pub use compares::{equal, less, select};
 pub use products::mul;
+pub use quotients::div_rem;
+pub use shifts::{shift_left, shift_right};
 pub use sums::{add, sub};
 pub use word::{Word, WordNum};

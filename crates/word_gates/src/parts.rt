@@ -8,7 +8,7 @@ use gate_core::Gates;
 use kv_base::NoMemory;
 use kv_clause::Lit;
 
-/// Whether a literal of the word is true.
+/// Whether a literal of the word is true. The gates of a word's upper part are those of the whole.
 pub(crate) fn any(gates: &mut Gates, word: &[Lit]) -> Result<Lit, NoMemory>
     requires { IsWordOf gates.old word.now }
     ensures within { IfOk result (IsLitOf gates.new) }
@@ -16,8 +16,8 @@ pub(crate) fn any(gates: &mut Gates, word: &[Lit]) -> Result<Lit, NoMemory>
     ensures grows { Grows gates.old gates.new }
 {
     let mut set = gates.constant(false)?;
-    for x in word {
-        let more = or(gates, set, *x)?;
+    for i in 0..word.len() {
+        let more = or(gates, set, word[word.len() - 1 - i])?;
         set = more;
     }
     Ok(set)

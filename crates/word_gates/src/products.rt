@@ -4,7 +4,8 @@ ghost use Rattle.kv_clause.specs.Literals.{is_true};
 ghost use Rattle.gate_core.specs.Table.{Agrees, IsLitOf, Grows};
 ghost use Rattle.word_gates.specs.Words.{bit, number, word_value, IsWordOf};
 
-use crate::signs::{absolute_value, with_sign};
+use crate::parts::any;
+use crate::signed_products::signed_mul;
 use crate::sums::add_carried;
 use crate::{Word, WordNum};
 use gate_core::Gates;
@@ -21,9 +22,9 @@ pub(crate) struct Product {
 
 /// A number by its lowest digit and the rest.
 #[derive(Debug, Drop)]
-struct Row {
-    digit: Lit,
-    rest: Word,
+pub(crate) struct Row {
+    pub digit: Lit,
+    pub rest: Word,
 }
 
 /// The product of two words.
@@ -45,23 +46,19 @@ pub fn mul(
     ensures fits { IfOk result (λ r. (A : ℕ → Bool) → Agrees A gates.new → IsTrue (is_true A r.fits) ↔ InShape (length a.now) signed (word_value A signed a.now *ℤ word_value A signed b.now)) }
     ensures grows { Grows gates.old gates.new }
 {
-    let x = absolute_value(alloc, gates, a.as_slice(), signed)?;
-    let y = absolute_value(alloc, gates, b.as_slice(), signed)?;
-    let exact = wide_product(alloc, gates, x.word.as_slice(), y.word.as_slice())?;
-    let negative = gates.xor(x.negative, y.negative)?;
-    let low = exact.low.as_slice();
-    let high = exact.high.as_slice();
-    let num = with_sign(alloc, gates, negative, low, high, signed)?;
-    Ok(num)
+    if signed {
+        return signed_mul(alloc, gates, a.as_slice(), b.as_slice());
+    }
+    let exact = wide_product(alloc, gates, a.as_slice(), b.as_slice())?;
+    let over = any(gates, exact.high.as_slice())?;
+    Ok(WordNum {
+        value: exact.low,
+        fits: over.complement(),
+    })
 }
 
 /// The product of two words without a sign.
-pub(crate) fn wide_product(
-    alloc: Global,
-    gates: &mut Gates,
-    a: &[Lit],
-    b: &[Lit],
-) -> Result<Product, NoMemory>
+fn wide_product(alloc: Global, gates: &mut Gates, a: &[Lit], b: &[Lit]) -> Result<Product, NoMemory>
     requires left { IsWordOf gates.old a.now }
     requires right { IsWordOf gates.old b.now }
     requires some { 0 < length a.now }
@@ -114,7 +111,7 @@ fn add_row(
 }
 
 /// A word without its lowest literal, and another at its top.
-fn upper(alloc: Global, word: &[Lit], top: Lit) -> Result<Word, NoMemory>
+pub(crate) fn upper(alloc: Global, word: &[Lit], top: Lit) -> Result<Word, NoMemory>
     requires { 0 < length word.now }
     ensures { IfOk result (λ w. w ≡ drop 1 word.now ++ top ∷ []) }
 {
@@ -124,7 +121,12 @@ fn upper(alloc: Global, word: &[Lit], top: Lit) -> Result<Word, NoMemory>
 }
 
 /// The word where a literal is true, and else zero.
-fn masked(alloc: Global, gates: &mut Gates, word: &[Lit], test: Lit) -> Result<Word, NoMemory>
+pub(crate) fn masked(
+    alloc: Global,
+    gates: &mut Gates,
+    word: &[Lit],
+    test: Lit,
+) -> Result<Word, NoMemory>
     requires word { IsWordOf gates.old word.now }
     requires test { IsLitOf gates.old test }
     ensures len { IfOk result (λ w. length w ≡ length word.now) }

@@ -47,7 +47,7 @@ pub(crate) fn negated_where(
 }
 
 /// A literal that is true where the number of a word is negative.
-fn sign(gates: &mut Gates, word: &[Lit], signed: bool) -> Result<Lit, NoMemory>
+pub(crate) fn sign(gates: &mut Gates, word: &[Lit], signed: bool) -> Result<Lit, NoMemory>
     requires word { IsWordOf gates.old word.now }
     requires some { 0 < length word.now }
     ensures within { IfOk result (IsLitOf gates.new) }

@@ -1,4 +1,4 @@
-use Rattle.std.proofs.Common.{arith, ◌≡◌, nat_lt, length, ap, sym, ◌∙◌, pos, ◌+ℤ◌}
+use Rattle.std.proofs.Common.{nat_lt, length, ap, ◌∙◌, pos, ◌+ℤ◌}
 use Rattle.kv_shape.specs.Shape.{below_at}
 use Rattle.kv_clause.specs.Literals.{is_true}
 use Rattle.word_gates.specs.Words.{number, word_value}

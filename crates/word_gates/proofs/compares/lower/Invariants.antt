@@ -1,4 +1,4 @@
-use Rattle.std.proofs.Common.{◌≡◌, ℕ, Bool, length, take, nat_lt}
+use Rattle.std.proofs.Common.{◌≡◌, ℕ, Bool, take, nat_lt}
 use Rattle.kv_clause.specs.Literals.{is_true}
 use Rattle.gate_core.specs.Table.{Agrees, IsLitOf, Grows}
 use Rattle.word_gates.specs.Words.{number}

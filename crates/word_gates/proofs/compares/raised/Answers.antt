@@ -1,4 +1,4 @@
-use Rattle.std.proofs.Common.{arith, ◌≡◌, ◌+◌, ◌-◌, ◌<◌, length, take, ap, sym, subst, ◌∙◌, List, ℕ}
+use Rattle.std.proofs.Common.{arith, ◌≡◌, ◌+◌, ◌-◌, length, ap}
 use Rattle.word_gates.proofs.Numbers.{raised_value}
 use Rattle.word_gates.proofs.compares.raised.Goals as goal
 

@@ -1,6 +1,6 @@
 use Rattle.std.proofs.Common.{◌≡◌, ℕ, Bool, length, take, if◌then◌else◌}
 use Rattle.kv_clause.specs.Literals.{is_true}
-use Rattle.gate_core.specs.Table.{Agrees, IsLitOf, Grows}
+use Rattle.gate_core.specs.Table.{Agrees, Grows}
 use Rattle.word_gates.specs.Words.{number, IsWordOf}
 use Rattle.word_gates.proofs.compares.select.Given as goal
 

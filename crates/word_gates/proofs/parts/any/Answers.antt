@@ -1,11 +1,11 @@
 use Rattle.std.proofs.Common.{arith}
 use Rattle.std.proofs.lemmas.Grind.{common_steps}
-use Rattle.word_gates.proofs.Rows.{any_more}
+use Rattle.word_gates.proofs.Divisions.{any_above}
 use Rattle.word_gates.proofs.parts.any.Goals as goal
 
-pub loop-x-preserved : goal.loop-x-preserved
-loop-x-preserved c = record {
+pub loop-i-preserved : goal.loop-i-preserved
+loop-i-preserved c = record {
   grows = grind (arith, common_steps);
   set = grind (arith, common_steps);
-  value = λ A h. any_more A c.loop-x.x-index c.args.word.now c.x-item.result c.loop-x.set c.in_ok-more.more c.loop-x-test.true c.x-item.is (c.loop-x.invariant.value A (c.in_ok-more.ensures.grows.kept A h)) (c.in_ok-more.ensures.value A h);
+  value = λ A h. any_above A c.args.word.now c.loop-i.i c.index-word-word.result c.loop-i.set c.in_ok-more.more c.loop-i-test.true c.index-word-word.is (c.loop-i.invariant.value A (c.in_ok-more.ensures.grows.kept A h)) (c.in_ok-more.ensures.value A h);
 }

@@ -1,4 +1,4 @@
-use Rattle.std.proofs.Common.{arith, ◌≡◌, ◌+◌, ◌-◌, ◌*◌, ◌^◌, ℕ, List, length, ap, ◌∙◌, sym, subst}
+use Rattle.std.proofs.Common.{arith, ◌≡◌, ◌+◌, ◌-◌, ◌*◌, length, ap, sym, subst}
 use Rattle.kv_clause.specs.Literals.{is_true}
 use Rattle.word_gates.specs.Words.{bit, number, IsWordOf}
 use Rattle.word_gates.proofs.Growth.{Grows-trans, word_pushed, word_rest}

@@ -2,7 +2,7 @@ use Rattle.std.proofs.Common.{arith, ◌+◌, ◌*◌, ap, ◌∙◌}
 use Rattle.std.proofs.lemmas.Grind.{common_steps}
 use Rattle.kv_clause.specs.Literals.{is_true}
 use Rattle.word_gates.specs.Words.{bit, number}
-use Rattle.word_gates.proofs.Growth.{literal_grown, word_grown, word_pushed, Grows-trans}
+use Rattle.word_gates.proofs.Growth.{word_grown, word_pushed, Grows-trans}
 use Rattle.word_gates.proofs.Rows.{product_more, product_none}
 use Rattle.word_gates.proofs.products.wide_product.Goals as goal
 

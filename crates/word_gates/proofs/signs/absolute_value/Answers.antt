@@ -1,4 +1,3 @@
-use Rattle.std.proofs.Common.{◌≡◌}
 use Rattle.kv_clause.specs.Literals.{is_true}
 use Rattle.word_gates.proofs.Negations.{magnitude_value}
 use Rattle.word_gates.proofs.signs.absolute_value.Goals as goal

@@ -1,4 +1,4 @@
-use Rattle.std.proofs.Common.{arith, ◌≡◌, ◌+◌, ◌-◌, ◌*◌, ◌^◌, Bool, length, ap, sym, subst, pos, ◌-ℤ◌}
+use Rattle.std.proofs.Common.{arith, ◌≡◌, ◌+◌, ◌-◌, ◌*◌, ◌^◌, Bool, length, sym, subst, pos, ◌-ℤ◌}
 use Rattle.kv_clause.specs.Literals.{is_true}
 use Rattle.word_gates.specs.Words.{bit, number, word_value}
 use Rattle.word_gates.proofs.Negations.{value_signed, value_unsigned}

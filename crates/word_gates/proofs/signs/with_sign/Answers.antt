@@ -1,8 +1,6 @@
-use Rattle.std.proofs.Common.{arith, ◌≡◌, ◌+◌, ◌-◌, ◌==◌, not, ℕ, length, ap, sym, ◌∙◌, pos}
-use Rattle.kv_shape.specs.Shape.{wrap_at}
+use Rattle.std.proofs.Common.{arith, ◌≡◌, ◌+◌, ◌-◌, length, ap, sym}
 use Rattle.kv_clause.specs.Literals.{is_true}
-use Rattle.word_gates.specs.Words.{bit, number, word_value}
-use Rattle.word_gates.proofs.Growth.{Grows-trans, word_grown}
+use Rattle.word_gates.specs.Words.{number}
 use Rattle.word_gates.proofs.Exact.{wrapped_value, sign_fits}
 use Rattle.word_gates.proofs.signs.with_sign.Goals as goal
 

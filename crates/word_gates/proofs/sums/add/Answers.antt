@@ -1,4 +1,4 @@
-use Rattle.std.proofs.Common.{◌≡◌, length, ◌+ℤ◌}
+use Rattle.std.proofs.Common.{length, ◌+ℤ◌}
 use Rattle.kv_clause.specs.Literals.{is_true}
 use Rattle.word_gates.specs.Words.{word_value}
 use Rattle.word_gates.proofs.Totals.{plus_never, fits_never}

@@ -1,4 +1,4 @@
-use Rattle.std.proofs.Common.{arith, ◌≡◌, ◌<◌, ℕ, subst, sym}
+use Rattle.std.proofs.Common.{arith, ◌<◌, subst, sym}
 use Rattle.std.proofs.lemmas.Grind.{common_steps}
 use Rattle.kv_clause.specs.Literals.{variable_of}
 use Rattle.word_gates.proofs.Growth.{complement_pushed}

@@ -1,4 +1,4 @@
-use Rattle.std.proofs.Common.{arith, ◌≡◌, ◌+◌, ◌-◌, ◌<◌, ◌^◌, ℕ, not, length, ap, ◌∙◌, sym, refl, pos, ◌+ℤ◌}
+use Rattle.std.proofs.Common.{arith, ◌≡◌, ◌+◌, ◌-◌, ◌^◌, not, length, ap, ◌∙◌, sym, refl, pos, ◌+ℤ◌}
 use Rattle.kv_shape.specs.Shape.{wrap_at}
 use Rattle.kv_clause.specs.Literals.{is_true}
 use Rattle.word_gates.specs.Words.{bit, number, word_value}

@@ -1,7 +1,6 @@
-use Rattle.std.proofs.Common.{arith, ◌≡◌, ◌+◌, ◌-◌, ◌<◌, ℕ, Bool, not, length, ap, ◌∙◌, sym}
+use Rattle.std.proofs.Common.{arith, ◌≡◌, ◌+◌, ◌-◌, not, length, ap, ◌∙◌}
 use Rattle.kv_clause.specs.Literals.{is_true}
 use Rattle.kv_clause.proofs.Truths.{is_true-complement}
-use Rattle.gate_core.specs.Table.{Agrees}
 use Rattle.word_gates.specs.Words.{bit}
 use Rattle.word_gates.proofs.Growth.{Grows-trans, literal_grown, word_grown, word_pushed}
 use Rattle.word_gates.proofs.Totals.{wrapped_total, total_fits}

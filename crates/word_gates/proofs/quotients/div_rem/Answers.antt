@@ -1,0 +1,92 @@
+use Rattle.std.proofs.Common.{arith, ◌≡◌, ◌+◌, ◌*◌, ◌^◌, length, ap, sym, subst, ◌∙◌, false}
+use Rattle.kv_num.specs.Bits.{differ}
+use Rattle.kv_shape.specs.Shape.{wrap_at, InShape}
+use Rattle.kv_clause.specs.Literals.{is_true}
+use Rattle.word_gates.specs.Words.{number, signed_number, word_value}
+use Rattle.word_gates.proofs.Growth.{Grows-trans}
+use Rattle.word_gates.proofs.Totals.{same_shape_at}
+use Rattle.word_gates.proofs.Divisions.{signed_quotient_is, signed_remainder_is, remainder_shape, remainder_value, shape_of_word, whole_quotient}
+use Rattle.word_gates.proofs.quotients.div_rem.Goals as goal
+
+pub returns-in_err-negative-clause-grows : goal.returns-in_err-negative-clause-grows
+returns-in_err-negative-clause-grows c = Grows-trans _ _ _ c.in_ok-x.ensures.grows (Grows-trans _ _ _ c.in_ok-y.ensures.grows (Grows-trans _ _ _ c.in_ok-exact.ensures.grows c.in_err-negative.ensures.grows))
+
+pub returns-in_err-quotient-clause-grows : goal.returns-in_err-quotient-clause-grows
+returns-in_err-quotient-clause-grows c = Grows-trans _ _ _ c.in_ok-x.ensures.grows (Grows-trans _ _ _ c.in_ok-y.ensures.grows (Grows-trans _ _ _ c.in_ok-exact.ensures.grows (Grows-trans _ _ _ c.in_ok-negative.ensures.grows c.in_err-quotient.ensures.grows)))
+
+pub returns-in_err-remainder-clause-grows : goal.returns-in_err-remainder-clause-grows
+returns-in_err-remainder-clause-grows c = Grows-trans _ _ _ c.in_ok-x.ensures.grows (Grows-trans _ _ _ c.in_ok-y.ensures.grows (Grows-trans _ _ _ c.in_ok-exact.ensures.grows (Grows-trans _ _ _ c.in_ok-negative.ensures.grows (Grows-trans _ _ _ c.in_ok-quotient.ensures.grows c.in_err-remainder.ensures.grows))))
+
+pub returns-clause-grows : goal.returns-clause-grows
+returns-clause-grows c = Grows-trans _ _ _ c.in_ok-x.ensures.grows (Grows-trans _ _ _ c.in_ok-y.ensures.grows (Grows-trans _ _ _ c.in_ok-exact.ensures.grows (Grows-trans _ _ _ c.in_ok-negative.ensures.grows (Grows-trans _ _ _ c.in_ok-quotient.ensures.grows c.in_ok-remainder.ensures.grows))))
+
+pub returns-clause-quotient : goal.returns-clause-quotient
+returns-clause-quotient c = λ A h some.
+    let h5 = c.in_ok-remainder.ensures.grows.kept A h in
+    let h4 = c.in_ok-quotient.ensures.grows.kept A h5 in
+    let h3 = c.in_ok-negative.ensures.grows.kept A h4 in
+    let h2 = c.in_ok-exact.ensures.grows.kept A h3 in
+    let h1 = c.in_ok-y.ensures.grows.kept A h2 in
+    let s = c.args.signed in
+    let digits = c.as_slice-digits.result.now in
+    let ny = number A c.in_ok-y.y.word in
+    let neg = is_true A c.in_ok-negative.negative in
+    let va = word_value A s c.args.a.now in
+    let vb = word_value A s c.args.b.now in
+    let ea : va ≡ signed_number (is_true A c.in_ok-x.x.negative) (number A c.in_ok-x.x.word) = ap (word_value A s) (sym c.as_slice.ensures) ∙ c.in_ok-x.ensures.value A h1 in
+    let eb : vb ≡ signed_number (is_true A c.in_ok-y.y.negative) (number A c.in_ok-y.y.word) = ap (word_value A s) (sym c.as_slice-2.ensures) ∙ c.in_ok-y.ensures.value A h2 in
+    let whole = rw (c.as_slice-3.ensures, c.as_slice-4.ensures) at (c.in_ok-exact.ensures.value A h3) in
+    let small = rw c.as_slice-4.ensures at (c.in_ok-exact.ensures.small A h3) in
+    let exact = signed_quotient_is va vb (is_true A c.in_ok-x.x.negative) (is_true A c.in_ok-y.y.negative) neg (number A c.in_ok-x.x.word) ny (number A c.in_ok-exact.exact.quotient) (number A c.in_ok-exact.exact.remainder) ea eb (c.in_ok-negative.ensures.value A h4) whole small some in
+    let len : length digits ≡ length c.args.a.now = omega (arith, ap length c.as_slice-digits.ensures, c.in_ok-exact.ensures.quotient_len, ap length c.as_slice-3.ensures, c.in_ok-x.ensures.len, ap length c.as_slice.ensures) in
+    c.in_ok-quotient.ensures.value A h5 ∙ (ap (λ k. wrap_at k s (signed_number neg (number A digits + 2 ^ length digits * 0))) len ∙ ap (wrap_at (length c.args.a.now) s) (whole_quotient A neg digits c.in_ok-exact.exact.quotient c.as_slice-digits.ensures ∙ exact))
+
+pub returns-clause-fits : goal.returns-clause-fits
+returns-clause-fits c = λ A h some.
+    let h5 = c.in_ok-remainder.ensures.grows.kept A h in
+    let h4 = c.in_ok-quotient.ensures.grows.kept A h5 in
+    let h3 = c.in_ok-negative.ensures.grows.kept A h4 in
+    let h2 = c.in_ok-exact.ensures.grows.kept A h3 in
+    let h1 = c.in_ok-y.ensures.grows.kept A h2 in
+    let s = c.args.signed in
+    let digits = c.as_slice-digits.result.now in
+    let ny = number A c.in_ok-y.y.word in
+    let neg = is_true A c.in_ok-negative.negative in
+    let va = word_value A s c.args.a.now in
+    let vb = word_value A s c.args.b.now in
+    let ea : va ≡ signed_number (is_true A c.in_ok-x.x.negative) (number A c.in_ok-x.x.word) = ap (word_value A s) (sym c.as_slice.ensures) ∙ c.in_ok-x.ensures.value A h1 in
+    let eb : vb ≡ signed_number (is_true A c.in_ok-y.y.negative) (number A c.in_ok-y.y.word) = ap (word_value A s) (sym c.as_slice-2.ensures) ∙ c.in_ok-y.ensures.value A h2 in
+    let whole = rw (c.as_slice-3.ensures, c.as_slice-4.ensures) at (c.in_ok-exact.ensures.value A h3) in
+    let small = rw c.as_slice-4.ensures at (c.in_ok-exact.ensures.small A h3) in
+    let exact = signed_quotient_is va vb (is_true A c.in_ok-x.x.negative) (is_true A c.in_ok-y.y.negative) neg (number A c.in_ok-x.x.word) ny (number A c.in_ok-exact.exact.quotient) (number A c.in_ok-exact.exact.remainder) ea eb (c.in_ok-negative.ensures.value A h4) whole small some in
+    let len : length digits ≡ length c.args.a.now = omega (arith, ap length c.as_slice-digits.ensures, c.in_ok-exact.ensures.quotient_len, ap length c.as_slice-3.ensures, c.in_ok-x.ensures.len, ap length c.as_slice.ensures) in
+    same_shape_at (length digits) (length c.args.a.now) s (is_true A c.in_ok-quotient.quotient.fits) (signed_number neg (number A digits + 2 ^ length digits * 0)) _ len (whole_quotient A neg digits c.in_ok-exact.exact.quotient c.as_slice-digits.ensures ∙ exact)
+    (c.in_ok-quotient.ensures.fits A h5 (λ (plain : s ≡ false). c.in_ok-negative.ensures.value A h4 ∙ (ap (λ z. differ z (is_true A c.in_ok-y.y.negative)) (c.in_ok-x.ensures.plain A h1 plain) ∙ c.in_ok-y.ensures.plain A h2 plain)))
+
+pub returns-clause-remainder : goal.returns-clause-remainder
+returns-clause-remainder c = λ A h some.
+    let h5 = c.in_ok-remainder.ensures.grows.kept A h in
+    let h4 = c.in_ok-quotient.ensures.grows.kept A h5 in
+    let h3 = c.in_ok-negative.ensures.grows.kept A h4 in
+    let h2 = c.in_ok-exact.ensures.grows.kept A h3 in
+    let h1 = c.in_ok-y.ensures.grows.kept A h2 in
+    let s = c.args.signed in
+    let left = c.as_slice-left.result.now in
+    let nx = number A c.in_ok-x.x.word in
+    let ny = number A c.in_ok-y.y.word in
+    let sx = is_true A c.in_ok-x.x.negative in
+    let sy = is_true A c.in_ok-y.y.negative in
+    let neg = is_true A c.in_ok-negative.negative in
+    let q = number A c.in_ok-exact.exact.quotient in
+    let va = word_value A s c.args.a.now in
+    let vb = word_value A s c.args.b.now in
+    let ea : va ≡ signed_number (is_true A c.in_ok-x.x.negative) (number A c.in_ok-x.x.word) = ap (word_value A s) (sym c.as_slice.ensures) ∙ c.in_ok-x.ensures.value A h1 in
+    let eb : vb ≡ signed_number (is_true A c.in_ok-y.y.negative) (number A c.in_ok-y.y.word) = ap (word_value A s) (sym c.as_slice-2.ensures) ∙ c.in_ok-y.ensures.value A h2 in
+    let whole = rw (c.as_slice-3.ensures, c.as_slice-4.ensures, sym c.as_slice-left.ensures) at (c.in_ok-exact.ensures.value A h3) in
+    let small = rw (c.as_slice-4.ensures, sym c.as_slice-left.ensures) at (c.in_ok-exact.ensures.small A h3) in
+    let r = number A left in
+    let en = c.in_ok-negative.ensures.value A h4 in
+    let len : length c.args.a.now ≡ length left = omega (arith, ap length c.as_slice-left.ensures, c.in_ok-exact.ensures.remainder_len, ap length c.as_slice-3.ensures, c.in_ok-x.ensures.len, ap length c.as_slice.ensures) in
+    let shape = remainder_shape va vb sx sy neg nx ny q r ea eb en whole small some (length c.args.a.now) s c.requires.some (shape_of_word A s c.args.a.now) in
+    remainder_value A s sx left c.in_ok-remainder.remainder c.in_ok-remainder.ensures.len (c.in_ok-remainder.ensures.value A h) (subst (λ k. InShape k s (signed_number sx r)) len shape)
+    ∙ signed_remainder_is va vb sx sy neg nx ny q r ea eb en whole small some

@@ -1,0 +1,32 @@
+use Rattle.std.proofs.Common.{arith, ◌≤◌, ◌-◌, ◌==◌, ◌&&◌, ◌||◌, not, length, drop, ap, ◌∙◌, if◌then◌else◌, refl}
+use Rattle.kv_clause.specs.Literals.{is_true}
+use Rattle.word_gates.specs.Words.{number}
+use Rattle.word_gates.proofs.Moves.{raised_value, raised_past, rest_is}
+use Rattle.word_gates.proofs.shifts.raise_where.Goals as goal
+
+pub returns-clause-value : goal.returns-clause-value
+returns-clause-value c = λ A h.
+    let h4 = c.in_ok-word.ensures.grows.kept A h in
+    let h3 = c.in_ok-lost.ensures.grows.kept A h4 in
+    let h2 = c.in_ok-falls.ensures.grows.kept A h3 in
+    let h1 = c.in_ok-past.ensures.grows.kept A h2 in
+    let bits = c.as_slice-bits.result.now in
+    let e = c.as_slice-bits.ensures in
+    let w = c.args.word.now in
+    let room : c.args.places ≤ length bits = omega (arith, ap length e) in
+    let r = raised_value A bits c.in_ok-moved.moved c.args.places (length bits - c.args.places) c.in_ok-never.never room refl c.in_ok-moved.ensures (c.in_ok-never.ensures.value A h1) in
+    c.in_ok-word.ensures.value A h ∙ ap (λ z. if is_true A c.args.test then z else number A w) (rw e at r)
+
+pub returns-clause-over : goal.returns-clause-over
+returns-clause-over c = λ A h.
+    let h4 = c.in_ok-word.ensures.grows.kept A h in
+    let h3 = c.in_ok-lost.ensures.grows.kept A h4 in
+    let h2 = c.in_ok-falls.ensures.grows.kept A h3 in
+    let h1 = c.in_ok-past.ensures.grows.kept A h2 in
+    let bits = c.as_slice-bits.result.now in
+    let e = c.as_slice-bits.ensures in
+    let t = is_true A c.args.test in
+    let room : c.args.places ≤ length bits = omega (arith, ap length e) in
+    let kept : length bits - c.args.places ≤ length bits = omega arith in
+    let r = raised_past A bits c.in_ok-moved.moved c.args.places (length bits - c.args.places) c.in_ok-never.never room refl c.in_ok-moved.ensures (c.in_ok-never.ensures.value A h1) in
+    c.in_ok-lost.ensures.value A h4 ∙ ap (λ z. is_true A c.args.lost || z) (c.in_ok-falls.ensures.value A h3 ∙ ap (λ z. t && z) (c.in_ok-past.ensures.value A h2 ∙ (ap (λ z. not (number A z == 0)) (rest_is (length bits - c.args.places) bits kept) ∙ (ap (λ z. not (number A (drop (length z - c.args.places) z) == 0)) e ∙ (rw e at r)))))

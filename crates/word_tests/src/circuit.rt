@@ -1,0 +1,148 @@
+ghost use Rattle.std.specs.Prelude.{◌≡◌, ◌+◌, ◌<◌, length, IfOk};
+ghost use Rattle.gate_core.specs.Table.{Grows};
+ghost use Rattle.word_gates.specs.Words.{IsWordOf};
+
+use gate_core::Gates;
+use kv_base::{NoMemory, Sequence};
+use kv_clause::Lit;
+use std::alloc::Global;
+use word_gates::{
+    Word, WordNum, add, div_rem, equal, less, mul, select, shift_left, shift_right, sub,
+};
+
+#[derive(Clone, Copy, Debug, PartialEq, Eq)]
+pub enum Operation {
+    Add,
+    Sub,
+    Mul,
+    Div,
+    Rem,
+    ShiftLeft,
+    ShiftRight,
+    Less,
+    Equal,
+    Select,
+}
+
+/// A table of gates whose first inputs are two words, and a result. `Less` and `Equal` give a word of one bit, and
+/// `Select` chooses by the first word's lowest bit.
+#[derive(Drop)]
+pub struct Circuit {
+    pub gates: Gates,
+    pub value: Word,
+    /// Whether the exact result fits, where the operation says so.
+    pub fits: Option<Lit>,
+}
+
+/// Two words of inputs.
+#[derive(Drop)]
+struct Pair {
+    a: Word,
+    b: Word,
+}
+
+/// A word of new inputs.
+fn inputs(alloc: Global, gates: &mut Gates, width: usize) -> Result<Word, NoMemory>
+    ensures len { IfOk result (λ w. length w ≡ width) }
+    ensures word { IfOk result (λ w. IsWordOf gates.new w) }
+    ensures grows { Grows gates.old gates.new }
+{
+    let mut word = Sequence::new(alloc);
+    for _i in 0..width {
+        let input = gates.input()?;
+        word.push(input)?;
+    }
+    Ok(word)
+}
+
+/// Two words of new inputs.
+fn operands(alloc: Global, gates: &mut Gates, width: usize) -> Result<Pair, NoMemory>
+    ensures a_len { IfOk result (λ r. length r.a ≡ width) }
+    ensures b_len { IfOk result (λ r. length r.b ≡ width) }
+    ensures a { IfOk result (λ r. IsWordOf gates.new r.a) }
+    ensures b { IfOk result (λ r. IsWordOf gates.new r.b) }
+{
+    let a = inputs(alloc, gates, width)?;
+    let b = inputs(alloc, gates, width)?;
+    Ok(Pair { a, b })
+}
+
+impl Circuit {
+    /// The circuit of an operation on words of a width.
+    pub fn new(
+        alloc: Global,
+        operation: Operation,
+        width: usize,
+        signed: bool,
+    ) -> Result<Circuit, NoMemory>
+        requires { 0 < width }
+    {
+        let mut gates = Gates::new(alloc);
+        let words = operands(alloc, &mut gates, width)?;
+        let (a, b) = (&words.a, &words.b);
+        match operation {
+            Operation::Add => {
+                let num = add(alloc, &mut gates, a, b, signed)?;
+                Ok(of_num(gates, num))
+            }
+            Operation::Sub => {
+                let num = sub(alloc, &mut gates, a, b, signed)?;
+                Ok(of_num(gates, num))
+            }
+            Operation::Mul => {
+                let num = mul(alloc, &mut gates, a, b, signed)?;
+                Ok(of_num(gates, num))
+            }
+            Operation::Div => {
+                let (quotient, _) = div_rem(alloc, &mut gates, a, b, signed)?;
+                Ok(of_num(gates, quotient))
+            }
+            Operation::Rem => {
+                let (_, remainder) = div_rem(alloc, &mut gates, a, b, signed)?;
+                Ok(of_num(gates, remainder))
+            }
+            Operation::ShiftLeft => {
+                let num = shift_left(alloc, &mut gates, a, b, signed)?;
+                Ok(of_num(gates, num))
+            }
+            Operation::ShiftRight => {
+                let word = shift_right(alloc, &mut gates, a, b, signed)?;
+                Ok(of_word(gates, word))
+            }
+            Operation::Less => {
+                let bit = less(alloc, &mut gates, a, b, signed)?;
+                of_bit(alloc, gates, bit)
+            }
+            Operation::Equal => {
+                let bit = equal(&mut gates, a, b)?;
+                of_bit(alloc, gates, bit)
+            }
+            Operation::Select => {
+                let word = select(alloc, &mut gates, a.as_slice()[0], a, b)?;
+                Ok(of_word(gates, word))
+            }
+        }
+    }
+}
+
+fn of_num(gates: Gates, num: WordNum) -> Circuit {
+    Circuit {
+        gates,
+        value: num.value,
+        fits: Some(num.fits),
+    }
+}
+
+fn of_word(gates: Gates, value: Word) -> Circuit {
+    Circuit {
+        gates,
+        value,
+        fits: None,
+    }
+}
+
+fn of_bit(alloc: Global, gates: Gates, bit: Lit) -> Result<Circuit, NoMemory> {
+    let mut value = Sequence::new(alloc);
+    value.push(bit)?;
+    Ok(of_word(gates, value))
+}

@@ -1,0 +1,10 @@
+//! Circuits of words, evaluated on numbers.
+#![tactic(auto)]
+
+mod circuit;
+mod lanes;
+#[cfg(test)]
+mod tests;
+
+pub use circuit::{Circuit, Operation};
+pub use lanes::{LANES, evaluated, gate_count, inputs, is_set, word_in_lane};
