@@ -17,24 +17,21 @@ use Rattle.c_tree.specs.SpellsStatements as grammar
 use Rattle.c_tree.specs.SpellsStatements.{IsInitialiser, AreParts, IsDeclared, AreDeclared, IsDeclaration}
 use Rattle.c_parser.specs.Kinds.{kind_at, suffix, below, Commas, NoSuffix}
 use Rattle.c_parser.specs.Marks as sign
-use Rattle.c_parser.specs.Marks.{Mark, mark, mark_at, extends_declarator}
+use Rattle.c_parser.specs.Marks.{follows_specifiers, Mark, mark, mark_at, extends_declarator}
 use Rattle.c_parser.specs.Reader.{Outcome, Gives, and_then, Reader}
 use Rattle.c_parser.specs.ReadTypes.{ListOf, separated, listed, Specifies, Titled, Titles}
 use Rattle.c_parser.specs.Readers.{specifiers, declarator}
 use Rattle.c_parser.specs.Readers as readers
 use Rattle.c_parser.specs.ReadStatements as rule
+use Rattle.c_parser.specs.Laws.{EndsInitialiser}
 use Rattle.c_parser.proofs.StatementSteps.{initialiser_on}
 use Rattle.c_parser.proofs.Complete.{Enough, Reaches, exact, below_at}
-use Rattle.c_parser.proofs.Leads.{is_operand, begins_declarator, follows_specifiers, is_curly, declarator_follows, expression_leads, decorated_leads}
+use Rattle.c_parser.proofs.Leads.{is_operand, begins_declarator, is_curly, declarator_follows, expression_leads, decorated_leads}
 use Rattle.c_parser.proofs.CompleteTypes.{then_on, curly_closes_on, semicolon_on, inside, separated_one, separated_more, listed_one, listed_last, listed_more, is_curly_close}
 use Rattle.c_parser.proofs.CompleteSpecifiers.{ReachesDecorated, ReachesSpecifiers, operand_no_close}
 use Rattle.c_parser.proofs.CompleteReaders.{complete, complete_specifiers, complete_decorated}
 
 -- ---- initialisers
-
--- what may stand behind an initialiser
-abbrev EndsInitialiser : List TokenKind → Place → Type 0
-EndsInitialiser kinds q = At kinds q token.Comma ⊎ (At kinds q token.Semicolon ⊎ At kinds q token.RightBrace)
 
 abbrev ReachesInitialiser : List TokenKind → Place → Place → Initialiser → Type 0
 ReachesInitialiser kinds p q x = (n : ℕ) → EndsInitialiser kinds q → Enough kinds n p → (p.at < q.at) × (rule.initialiser kinds n p ≡ Gives x q)
@@ -107,7 +104,7 @@ parts_lead kinds from to whole (grammar.last_part p q x d a) = initialiser_leads
 parts_lead kinds from to whole (grammar.more_parts p q r x xs d a e) = initialiser_leads kinds p q x d
 
 mutual
-  complete_initialiser : (kinds : List TokenKind) (p q : Place) (x : Initialiser) → IsInitialiser kinds p q x → ReachesInitialiser kinds p q x
+  pub complete_initialiser : (kinds : List TokenKind) (p q : Place) (x : Initialiser) → IsInitialiser kinds p q x → ReachesInitialiser kinds p q x
   complete_initialiser kinds from to whole (grammar.value_initialiser p q x d) = value_goes kinds p q x (expression_leads kinds 1 p q x d) (complete kinds 1 p q x d)
   complete_initialiser kinds from to whole (grammar.braces p q parts a d b) = braces_goes kinds p q parts a (complete_parts kinds (next p) q parts d) b
 

@@ -15,7 +15,7 @@ use Rattle.c_tree.specs.Spells as grammar
 use Rattle.c_tree.specs.Spells.{AreAttributes, IsUnnamed, AreArrays, nearest, Unnamed, InParameter, InTypeName, may_all_qualify}
 use Rattle.c_parser.specs.Kinds.{ClosesSquare, begins_type}
 use Rattle.c_parser.specs.Marks as sign
-use Rattle.c_parser.specs.Marks.{Mark, mark, mark_at, extends_declarator}
+use Rattle.c_parser.specs.Marks.{follows_specifiers, Mark, mark, mark_at, extends_declarator}
 use Rattle.c_parser.specs.Reader.{Outcome, Gives, Refuses, and_then, Reader}
 use Rattle.c_parser.specs.ReadTypes as rule
 use Rattle.c_parser.specs.ReadTypes.{attributes, ListOf, Specified, Specifies, Titled, Titles, Takes, Taken, Perhaps, With, Without, Suffixes, qualifiers}
@@ -23,7 +23,7 @@ use Rattle.c_parser.specs.Readers.{read, specifiers, perhaps, declarator}
 use Rattle.c_parser.proofs.Steps.{then_gives}
 use Rattle.c_parser.proofs.TypeSteps.{suffixes_on, parameters_on, arrays_on, unnamed_on, perhaps_on}
 use Rattle.c_parser.proofs.Complete.{Enough, Reaches, ReachesType, exact, below_at}
-use Rattle.c_parser.proofs.Leads.{is_operand, begins_declarator, follows_specifiers, begins_specifiers, is_suffix, declarator_follows, extends_no_suffix, extends_no_attribute, attributes_no_suffix}
+use Rattle.c_parser.proofs.Leads.{is_operand, begins_declarator, begins_specifiers, is_suffix, declarator_follows, extends_no_suffix, extends_no_attribute, attributes_no_suffix}
 use Rattle.c_parser.proofs.CompleteTypes.{then_on, closes_on, square_closes_on, inside, ReachesAttributes, ReachesQualifiers, is_qualifier}
 use Rattle.c_parser.proofs.CompleteSpecifiers.{ReachesDecorated, ReachesSpecifiers}
 

@@ -24,7 +24,7 @@ use Rattle.c_tree.specs.Spells as grammar
 use Rattle.c_tree.specs.Spells.{AreAttributes, IsTag, EndsSpecifiers, Role, Types, Modifies, storage_role, types_now, defines_now}
 use Rattle.c_parser.specs.Kinds.{kind_at, suffix, below, Commas, NoSuffix}
 use Rattle.c_parser.specs.Marks as sign
-use Rattle.c_parser.specs.Marks.{Mark, mark, mark_at, extends_declarator}
+use Rattle.c_parser.specs.Marks.{follows_specifiers, Mark, mark, mark_at, extends_declarator}
 use Rattle.c_parser.specs.Reader.{Outcome, Gives, Refuses, and_then, Reader}
 use Rattle.c_parser.specs.ReadTypes as rule
 use Rattle.c_parser.specs.ReadTypes.{attributes, ListOf, separated, listed, Specific, Plays, Specified, Specifies, Titled, Titles, ReadsSpecifiers, ReadsDeclarator}
@@ -32,7 +32,7 @@ use Rattle.c_parser.specs.Readers.{read, specifiers, perhaps, declarator, struct
 use Rattle.c_parser.proofs.MarkLaws.{mark-storage_sign, mark-function_sign, mark-qualifier_sign, mark-base_sign}
 use Rattle.c_parser.proofs.TypeSteps.{lines_on, further_on, specifiers_on}
 use Rattle.c_parser.proofs.Complete.{Enough, Reaches, exact, below_at}
-use Rattle.c_parser.proofs.Leads.{is_operand, begins_declarator, follows_specifiers, begins_specifiers, is_attribute, is_curly, no_further, follows_no_attribute, follows_no_curly, begins_no_curly, attributes_no_curly}
+use Rattle.c_parser.proofs.Leads.{is_operand, begins_declarator, begins_specifiers, is_attribute, is_curly, no_further, follows_no_attribute, follows_no_curly, begins_no_curly, attributes_no_curly}
 use Rattle.c_parser.proofs.CompleteTypes.{then_on, curly_closes_on, semicolon_on, Inside, inside, ReachesAttributes, separated_one, separated_more, listed_one, listed_last, listed_more, is_curly_close}
 
 -- ---- what is shown of each part

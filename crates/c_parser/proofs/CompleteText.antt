@@ -17,7 +17,7 @@ use Rattle.c_tree.specs.SpellsText as grammar
 use Rattle.c_tree.specs.SpellsText.{IsExternal, AreExternals, parameters_of}
 use Rattle.c_parser.specs.Kinds.{kind_at}
 use Rattle.c_parser.specs.Marks as sign
-use Rattle.c_parser.specs.Marks.{Mark, mark, mark_at, extends_declarator}
+use Rattle.c_parser.specs.Marks.{follows_specifiers, Mark, mark, mark_at, extends_declarator}
 use Rattle.c_parser.specs.Reader.{Gives, and_then}
 use Rattle.c_parser.specs.ReadTypes.{ListOf, separated_after, Specifies, Titled, Titles}
 use Rattle.c_parser.specs.Readers.{specifiers, declarator}
@@ -25,7 +25,7 @@ use Rattle.c_parser.specs.ReadStatements.{initialiser, declared_after, declarati
 use Rattle.c_parser.specs.ReadText as rule
 use Rattle.c_parser.proofs.StatementSteps.{externals_on}
 use Rattle.c_parser.proofs.Complete.{Enough}
-use Rattle.c_parser.proofs.Leads.{begins_declarator, begins_specifiers, follows_specifiers, is_curly, declarator_follows, decorated_leads, specifiers_lead}
+use Rattle.c_parser.proofs.Leads.{begins_declarator, begins_specifiers, is_curly, declarator_follows, decorated_leads, specifiers_lead}
 use Rattle.c_parser.proofs.CompleteTypes.{then_on, curly_closes_on, semicolon_on, Inside, inside}
 use Rattle.c_parser.proofs.CompleteReaders.{complete_specifiers, complete_decorated}
 use Rattle.c_parser.proofs.CompleteDeclarations.{ReachesDeclared, complete_declared, complete_names, names_lead}

@@ -22,7 +22,7 @@ use Rattle.c_tree.specs.Spells as grammar
 use Rattle.c_tree.specs.Spells.{IsExpression, AreAttributes, AreSpecifiers, AreFurther, IsSpecifier, EndsSpecifiers, AreMembers, IsMember, AreEnumConstants, IsEnumConstant, IsDecorated, IsDeclarator, IsDirect, AreParameters, IsParameter, Role}
 use Rattle.c_parser.specs.Kinds.{kind_at, Word, start, begins_type, is_start}
 use Rattle.c_parser.specs.Marks as sign
-use Rattle.c_parser.specs.Marks.{Mark, mark, mark_at, mark_of, extends_declarator}
+use Rattle.c_parser.specs.Marks.{Mark, mark, mark_at, mark_of, extends_declarator, follows_specifiers}
 use Rattle.c_parser.specs.ReadTypes.{goes_further, is_further}
 use Rattle.c_parser.proofs.MarkLaws.{mark-storage_sign, mark-function_sign, mark-qualifier_sign, mark-base_sign, start-mark, start_marked, mark_means}
 
@@ -40,18 +40,6 @@ begins_declarator (sign.Name text) = true
 begins_declarator sign.RoundOpens = true
 begins_declarator sign.Star = true
 begins_declarator _ = false
-
--- it may stand behind specifiers
-abbrev pub follows_specifiers : Mark → Bool
-follows_specifiers (sign.Name text) = true
-follows_specifiers sign.RoundOpens = true
-follows_specifiers sign.Star = true
-follows_specifiers sign.Semicolon = true
-follows_specifiers sign.Colon = true
-follows_specifiers sign.RoundCloses = true
-follows_specifiers sign.Comma = true
-follows_specifiers sign.SquareOpens = true
-follows_specifiers _ = false
 
 -- specifiers begin with it
 abbrev pub begins_specifiers : Mark → Bool

@@ -6,6 +6,7 @@ use Rattle.c_model.specs.declared.token.TokenKind.{TokenKind}
 use Rattle.c_model.specs.declared.token.TokenKind.TheVariants as token
 use Rattle.c_model.specs.declared.token.Token.{Token}
 use Rattle.c_tree.specs.declared.expression.Declarator.{Declarator}
+use Rattle.c_tree.specs.declared.expression.Specifier.{Specifier}
 use Rattle.c_tree.specs.declared.declaration.External.{External}
 use Rattle.c_tree.specs.declared.declaration.Tree.{Tree}
 use Rattle.c_tree.specs.declared.scope.Entry.{Entry}
@@ -15,14 +16,14 @@ use Rattle.c_parser.specs.Kinds.{kind_at}
 use Rattle.c_parser.specs.Marks as sign
 use Rattle.c_parser.specs.Marks.{mark_at}
 use Rattle.c_parser.specs.Reader.{Outcome, Gives, Refuses}
-use Rattle.c_parser.specs.ReadTypes.{Titles}
+use Rattle.c_parser.specs.ReadTypes.{Specifies, Titles}
 use Rattle.c_parser.specs.ReadText.{text}
-use Rattle.c_parser.specs.Laws.{OneExpression, OneTypeName, OneDeclarator, OneDeclaration, OneStatement, OneExternal, OneTree, IsRead, ReadsWhatIsSpelled, RefusesTheRest}
+use Rattle.c_parser.specs.Laws.{OneExpression, OneTypeName, OneListOfSpecifiers, OneInitialiser, OneDeclarator, OneDeclaration, OneStatement, OneExternal, OneTree, IsRead, ReadsWhatIsSpelled, RefusesTheRest}
 use Rattle.c_parser.proofs.Depths.{length-kinds_of}
 use Rattle.c_parser.proofs.MarkLaws.{mark_means}
 use Rattle.c_parser.proofs.Complete.{Enough, exact}
-use Rattle.c_parser.proofs.CompleteReaders.{complete, complete_type, complete_decorated}
-use Rattle.c_parser.proofs.CompleteDeclarations.{complete_declaration}
+use Rattle.c_parser.proofs.CompleteReaders.{complete, complete_type, complete_specifiers, complete_decorated}
+use Rattle.c_parser.proofs.CompleteDeclarations.{complete_initialiser, complete_declaration}
 use Rattle.c_parser.proofs.CompleteStatements.{complete_statement, Shut}
 use Rattle.c_parser.proofs.CompleteText.{complete_external, complete_externals, externals_within}
 use Rattle.c_parser.proofs.SoundText.{externals_sound}
@@ -45,6 +46,23 @@ one_type_name kinds p q r x y d f a b =
     let e = complete_type kinds p r y f in
     let i = c.1 (length kinds + 1) a (enough kinds p) in
     let j = e.1 (length kinds + 1) b (enough kinds p) in
+    same _ x y q r i.1 j.1
+
+specified_same : (d e : Bool) (x y : List Specifier) (q r : Place) → (Specifies d x ≡ Specifies e y) × (q ≡ r) → (x ≡ y) × (q ≡ r) × (d ≡ e)
+specified_same d e x y q r h =
+    let s : Specifies d x ≡ Specifies e y = h.0 in
+    (cc, h.1, cc)
+
+pub one_list_of_specifiers : OneListOfSpecifiers
+one_list_of_specifiers kinds p q r d e x y f g a b =
+    let i = complete_specifiers kinds p q d x f (length kinds + 1) a (enough kinds p) in
+    let j = complete_specifiers kinds p r e y g (length kinds + 1) b (enough kinds p) in
+    specified_same d e x y q r (same _ (Specifies d x) (Specifies e y) q r i.1 j.1)
+
+pub one_initialiser : OneInitialiser
+one_initialiser kinds p q r x y d f a b =
+    let i = complete_initialiser kinds p q x d (length kinds + 1) a (enough kinds p) in
+    let j = complete_initialiser kinds p r y f (length kinds + 1) b (enough kinds p) in
     same _ x y q r i.1 j.1
 
 titles_same : (name other : List ℕ) (parameters others : Option (List Entry)) (x y : Declarator) (q r : Place) → (Titles name parameters x ≡ Titles other others y) × (q ≡ r)

@@ -1,22 +1,24 @@
 -- Laws of the grammar: tokens spell one tree at most, part by part, where what comes next can't go on with the part.
-use Rattle.std.specs.Prelude.{◌≡◌, ℕ, ◌≤◌, Bool, true, false, List, Option, ◌↔◌}
+use Rattle.std.specs.Prelude.{◌≡◌, ℕ, ◌≤◌, Bool, true, false, List, Option, ◌↔◌, ◌⊎◌}
 use Rattle.c_model.specs.declared.token.TokenKind.{TokenKind}
 use Rattle.c_model.specs.declared.token.TokenKind.TheVariants as token
 use Rattle.c_model.specs.declared.token.Token.{Token}
 use Rattle.c_tree.specs.declared.expression.Expression.{Expression}
 use Rattle.c_tree.specs.declared.expression.Declarator.{Declarator}
+use Rattle.c_tree.specs.declared.expression.Specifier.{Specifier}
 use Rattle.c_tree.specs.declared.expression.TypeName.{TypeName}
+use Rattle.c_tree.specs.declared.declaration.Initialiser.{Initialiser}
 use Rattle.c_tree.specs.declared.declaration.Declaration.{Declaration}
 use Rattle.c_tree.specs.declared.declaration.External.{External}
 use Rattle.c_tree.specs.declared.declaration.Tree.{Tree}
 use Rattle.c_tree.specs.declared.statement.Statement.{Statement}
 use Rattle.c_tree.specs.declared.scope.Entry.{Entry}
 use Rattle.c_tree.specs.Places.{Place, At}
-use Rattle.c_tree.specs.Spells.{IsExpression, IsTypeName, IsDecorated}
-use Rattle.c_tree.specs.SpellsStatements.{IsDeclaration, IsStatement}
+use Rattle.c_tree.specs.Spells.{IsExpression, IsTypeName, AreSpecifiers, IsDecorated}
+use Rattle.c_tree.specs.SpellsStatements.{IsInitialiser, IsDeclaration, IsStatement}
 use Rattle.c_tree.specs.SpellsText.{IsExternal, Spells, kinds_of}
 use Rattle.c_parser.specs.Kinds.{kind_at, suffix, below}
-use Rattle.c_parser.specs.Marks.{mark_at, extends_declarator}
+use Rattle.c_parser.specs.Marks.{mark_at, extends_declarator, follows_specifiers}
 use Rattle.c_parser.specs.Reader.{Gives, Refuses}
 use Rattle.c_parser.specs.ReadText.{text}
 
@@ -33,6 +35,11 @@ abbrev pub OneTypeName : Type 0
 OneTypeName = (kinds : List TokenKind) (p q r : Place) (x y : TypeName) → IsTypeName kinds p q x → IsTypeName kinds p r y
     → At kinds q token.RightParenthesis → At kinds r token.RightParenthesis → (x ≡ y) × (q ≡ r)
 
+-- before a token that may stand behind specifiers
+abbrev pub OneListOfSpecifiers : Type 0
+OneListOfSpecifiers = (kinds : List TokenKind) (p q r : Place) (defines defines_too : Bool) (x y : List Specifier) → AreSpecifiers kinds p q defines x → AreSpecifiers kinds p r defines_too y
+    → follows_specifiers (mark_at kinds q) ≡ true → follows_specifiers (mark_at kinds r) ≡ true → (x ≡ y) × (q ≡ r) × (defines ≡ defines_too)
+
 -- the next token goes on with no declarator
 abbrev pub EndsDeclarator : List TokenKind → Place → Type 0
 EndsDeclarator kinds q = extends_declarator (mark_at kinds q) ≡ false
@@ -41,6 +48,14 @@ abbrev pub OneDeclarator : Type 0
 OneDeclarator = (kinds : List TokenKind) (p q r : Place) (name other : List ℕ) (parameters others : Option (List Entry)) (x y : Declarator)
     → IsDecorated kinds p q name parameters x → IsDecorated kinds p r other others y → EndsDeclarator kinds q → EndsDeclarator kinds r
     → (x ≡ y) × (q ≡ r) × (name ≡ other) × (parameters ≡ others)
+
+-- before a `,`, a `;` or a `}`
+abbrev pub EndsInitialiser : List TokenKind → Place → Type 0
+EndsInitialiser kinds q = At kinds q token.Comma ⊎ (At kinds q token.Semicolon ⊎ At kinds q token.RightBrace)
+
+abbrev pub OneInitialiser : Type 0
+OneInitialiser = (kinds : List TokenKind) (p q r : Place) (x y : Initialiser) → IsInitialiser kinds p q x → IsInitialiser kinds p r y
+    → EndsInitialiser kinds q → EndsInitialiser kinds r → (x ≡ y) × (q ≡ r)
 
 abbrev pub OneDeclaration : Type 0
 OneDeclaration = (kinds : List TokenKind) (p q r : Place) (x y : Declaration) → IsDeclaration kinds p q x → IsDeclaration kinds p r y → (x ≡ y) × (q ≡ r)

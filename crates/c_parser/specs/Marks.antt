@@ -146,3 +146,15 @@ extends_declarator SquareOpens = true
 extends_declarator Attribute = true
 extends_declarator Extension = true
 extends_declarator _ = false
+
+-- it may stand behind specifiers
+abbrev pub follows_specifiers : Mark → Bool
+follows_specifiers (Name text) = true
+follows_specifiers RoundOpens = true
+follows_specifiers Star = true
+follows_specifiers Semicolon = true
+follows_specifiers Colon = true
+follows_specifiers RoundCloses = true
+follows_specifiers Comma = true
+follows_specifiers SquareOpens = true
+follows_specifiers _ = false

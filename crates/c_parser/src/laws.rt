@@ -5,6 +5,8 @@ ghost use Rattle.c_parser.specs.Laws.{
   OneDeclarator,
   OneExpression,
   OneExternal,
+  OneInitialiser,
+  OneListOfSpecifiers,
   OneStatement,
   OneTree,
   OneTypeName,
@@ -18,9 +20,12 @@ pub fn one_expression()
     ensures type_name { OneTypeName }
 {}
 
-/// Tokens spell one declarator, where the next token goes on with none, and one declaration.
+/// Tokens spell one list of specifiers, one declarator and one initialiser, where the next token goes on with none,
+/// and one declaration.
 pub fn one_declaration()
+    ensures specifiers { OneListOfSpecifiers }
     ensures declarator { OneDeclarator }
+    ensures initialiser { OneInitialiser }
     ensures declaration { OneDeclaration }
 {}
 
