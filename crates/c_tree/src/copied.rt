@@ -164,7 +164,10 @@ fn boxed_type(alloc: Global, x: &Boxed<TypeName>) -> Result<Boxed<TypeName>, NoM
 }
 
 #[cycle(copies)]
-pub(crate) fn specifiers(alloc: Global, items: &Items<Specifier>) -> Result<Items<Specifier>, NoMemory>
+pub(crate) fn specifiers(
+    alloc: Global,
+    items: &Items<Specifier>,
+) -> Result<Items<Specifier>, NoMemory>
     ensures { IfOk result (λ made. made ≡ items.now) }
 {
     let mut made = Items::new(alloc);
@@ -356,10 +359,7 @@ pub(crate) fn declarator(alloc: Global, x: &Declarator) -> Result<Declarator, No
 }
 
 #[cycle(copies)]
-fn boxed_declarator(
-    alloc: Global,
-    x: &Boxed<Declarator>,
-) -> Result<Boxed<Declarator>, NoMemory>
+fn boxed_declarator(alloc: Global, x: &Boxed<Declarator>) -> Result<Boxed<Declarator>, NoMemory>
     ensures { IfOk result (λ made. made ≡ x.now) }
 {
     Boxed::new(alloc, declarator(alloc, x.get())?)
