@@ -17,7 +17,7 @@ impl Copied for Qualifier {
 }
 
 #[cycle(copies)]
-fn expression(alloc: Global, x: &Expression) -> Result<Expression, NoMemory>
+pub(crate) fn expression(alloc: Global, x: &Expression) -> Result<Expression, NoMemory>
     ensures { IfOk result (λ made. made ≡ x.now) }
 {
     match x {
@@ -164,7 +164,10 @@ fn boxed_type(alloc: Global, x: &Boxed<TypeName>) -> Result<Boxed<TypeName>, NoM
 }
 
 #[cycle(copies)]
-fn specifiers(alloc: Global, items: &Items<Specifier>) -> Result<Items<Specifier>, NoMemory>
+pub(crate) fn specifiers(
+    alloc: Global,
+    items: &Items<Specifier>,
+) -> Result<Items<Specifier>, NoMemory>
     ensures { IfOk result (λ made. made ≡ items.now) }
 {
     let mut made = Items::new(alloc);
@@ -314,7 +317,7 @@ fn enum_constant(alloc: Global, x: &EnumConstant) -> Result<EnumConstant, NoMemo
 }
 
 #[cycle(copies)]
-fn declarator(alloc: Global, x: &Declarator) -> Result<Declarator, NoMemory>
+pub(crate) fn declarator(alloc: Global, x: &Declarator) -> Result<Declarator, NoMemory>
     ensures { IfOk result (λ made. made ≡ x.now) }
 {
     match x {
@@ -356,10 +359,7 @@ fn declarator(alloc: Global, x: &Declarator) -> Result<Declarator, NoMemory>
 }
 
 #[cycle(copies)]
-fn boxed_declarator(
-    alloc: Global,
-    x: &Boxed<Declarator>,
-) -> Result<Boxed<Declarator>, NoMemory>
+fn boxed_declarator(alloc: Global, x: &Boxed<Declarator>) -> Result<Boxed<Declarator>, NoMemory>
     ensures { IfOk result (λ made. made ≡ x.now) }
 {
     Boxed::new(alloc, declarator(alloc, x.get())?)
@@ -382,5 +382,20 @@ fn parameters(alloc: Global, items: &Items<Parameter>) -> Result<Items<Parameter
 impl Copied for Expression {
     fn copy(&self, alloc: Global) -> Result<Expression, NoMemory> {
         expression(alloc, self)
+    }
+}
+
+impl Copied for Declarator {
+    fn copy(&self, alloc: Global) -> Result<Declarator, NoMemory> {
+        declarator(alloc, self)
+    }
+}
+
+impl Copied for TypeName {
+    fn copy(&self, alloc: Global) -> Result<TypeName, NoMemory> {
+        Ok(TypeName {
+            specifiers: specifiers(alloc, &self.specifiers)?,
+            declarator: declarator(alloc, &self.declarator)?,
+        })
     }
 }

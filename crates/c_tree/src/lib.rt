@@ -2,6 +2,7 @@
 #![tactic(auto)]
 
 mod copied;
+mod copied_declaration;
 mod declaration;
 mod expression;
 mod scope;
