@@ -150,9 +150,6 @@ in_range_value A signed top word neg least greater past out es el eg ep eout =
     let o : is_true A past ≡ (is_true A top && not (is_true A neg && is_true A word)) = ep ∙ ap (λ z. is_true A top && z) g in
     ap (is_true A) eout ∙ (is_true-complement A past ∙ (ap not o ∙ ap (λ z. not (z && (is_true A top && not (is_true A neg && is_true A word)))) (sym es)))
 
-pub in_range_always : (signed t b : Bool) → signed ≡ false → t ≡ true → t ≡ not (signed && b)
-in_range_always signed t b es et = et ∙ ap (λ z. not (z && b)) (sym es)
-
 pub in_range_plain : (A : ℕ → Bool) (signed : Bool) (more top word neg out : ℕ) → signed ≡ false → out ≡ complement_of more
     → is_true A out ≡ not (is_true A more || (signed && (is_true A top && not (is_true A neg && is_true A word))))
 in_range_plain A signed more top word neg out es eout =
