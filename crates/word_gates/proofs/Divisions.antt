@@ -6,14 +6,14 @@ use Rattle.std.proofs.lemmas.Nat.{div-mul-add}
 use Rattle.std.proofs.lemmas.Bool.{cases_lt, lt-ltb, le-ltb}
 use Rattle.kv_num.specs.Bits.{differ}
 use Rattle.kv_num.specs.Quotient.{quotient_of, remainder_of}
-use Rattle.kv_shape.specs.Shape.{below_at, InShape, wrap_at}
+use Rattle.kv_shape.specs.Shape.{below_at, InShape}
 use Rattle.kv_shape.proofs.Shapes.{wrap_at-in_shape, range-wrap_at}
 use Rattle.kv_clause.specs.Literals.{is_true, complement_of}
 use Rattle.kv_clause.proofs.Truths.{is_true-complement}
 use Rattle.word_gates.specs.Words.{bit, number, signed_number, word_value}
 use Rattle.word_gates.proofs.Numbers.{number-bound}
 use Rattle.word_gates.proofs.Negations.{below_less}
-use Rattle.word_gates.proofs.Exact.{neg_as, signed_product, wrapped_value}
+use Rattle.word_gates.proofs.Exact.{neg_as, signed_product, wrapped_absolute}
 use Rattle.word_gates.proofs.Moves.{number-split, nonzero, rest_is}
 
 -- ---- a word from its top
@@ -230,16 +230,7 @@ pub shape_of_word : (A : ℕ → Bool) (signed : Bool) (a : List ℕ) → InShap
 unfolding word_value
 shape_of_word A signed a = range-wrap_at (length a) signed (pos (number A a))
 
-nothing_above : (n s : ℕ) → n + s * 0 ≡ n
-nothing_above n s = omega arith
-
 -- the word of a remainder, from its absolute value
 pub remainder_value : (A : ℕ → Bool) (signed neg : Bool) (low value : List ℕ) → length value ≡ length low → (if neg then number A value + number A low else number A value) ≡ (if neg then 2 ^ length low * bit (not (number A low == 0)) else number A low) → InShape (length low) signed (signed_number neg (number A low)) → word_value A signed value ≡ signed_number neg (number A low)
 remainder_value A signed neg low value len e is =
-    wrapped_value A signed neg low value 0 len e
-    ∙ (ap (λ z. wrap_at (length low) signed (signed_number neg z)) (nothing_above (number A low) (2 ^ length low))
-    ∙ wrap_at-in_shape (length low) signed (signed_number neg (number A low)) is)
-
--- a quotient has no bits above its width
-pub whole_quotient : (A : ℕ → Bool) (neg : Bool) (digits quotient : List ℕ) → digits ≡ quotient → signed_number neg (number A digits + 2 ^ length digits * 0) ≡ signed_number neg (number A quotient)
-whole_quotient A neg digits quotient e = ap (signed_number neg) (nothing_above (number A digits) (2 ^ length digits) ∙ ap (number A) e)
+    wrapped_absolute A signed neg low value len e ∙ wrap_at-in_shape (length low) signed (signed_number neg (number A low)) is

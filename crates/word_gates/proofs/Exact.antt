@@ -10,7 +10,7 @@ use Rattle.kv_clause.specs.Literals.{is_true, complement_of}
 use Rattle.kv_clause.proofs.Truths.{is_true-complement}
 use Rattle.word_gates.specs.Words.{bit, number, signed_number, word_value}
 use Rattle.word_gates.proofs.Numbers.{number-bound, number_top, full, half, low_bound}
-use Rattle.word_gates.proofs.Totals.{as_shape}
+use Rattle.word_gates.proofs.Totals.{as_shape, same_shape_at}
 use lib.IntN.{*ℤ_comm}
 
 pub neg_as : (m : ℕ) → neg_ℤ (pos m) ≡ pos 0 -ℤ pos m
@@ -121,19 +121,34 @@ module _ (A : ℕ → Bool) (low value : List ℕ) (n x y high : ℕ) (neg hi : 
       as_shape (length low) false z z (not (hi || false)) f refl e
       (unsigned_fits hi neg (number A low) high (2 ^ n) (2 ^ length low) (plain refl) more some (full A low n x ll lx) (number-bound A low))
 
+pub nothing_above : (n s : ℕ) → n + s * 0 ≡ n
+nothing_above n s = omega arith
+
 pub wrapped_value : (A : ℕ → Bool) (signed neg : Bool) (low value : List ℕ) (high : ℕ) → length value ≡ length low → (if neg then number A value + number A low else number A value) ≡ (if neg then 2 ^ length low * bit (not (number A low == 0)) else number A low)
     → word_value A signed value ≡ wrap_at (length low) signed (signed_number neg (number A low + 2 ^ length low * high))
 unfolding word_value
 wrapped_value A signed neg low value high len e =
     ap (λ k. wrap_at k signed (pos (number A value))) len ∙ wrapped_sign (length low) signed neg (number A low) (number A value) high (bit (not (number A low == 0))) e
 
-pub in_range_value : (A : ℕ → Bool) (signed : Bool) (more top word neg least greater past over out : ℕ) → signed ≡ true
-    → is_true A least ≡ (is_true A neg && is_true A word) → greater ≡ complement_of least → is_true A past ≡ (is_true A top && is_true A greater) → is_true A over ≡ (is_true A more || is_true A past) → out ≡ complement_of over
-    → is_true A out ≡ not (is_true A more || (signed && (is_true A top && not (is_true A neg && is_true A word))))
-in_range_value A signed more top word neg least greater past over out es el eg ep eo eout =
+-- the word of a sign and an absolute value
+pub wrapped_absolute : (A : ℕ → Bool) (signed neg : Bool) (low value : List ℕ) → length value ≡ length low → (if neg then number A value + number A low else number A value) ≡ (if neg then 2 ^ length low * bit (not (number A low == 0)) else number A low)
+    → word_value A signed value ≡ wrap_at (length low) signed (signed_number neg (number A low))
+wrapped_absolute A signed neg low value len e = wrapped_value A signed neg low value 0 len e ∙ ap (λ z. wrap_at (length low) signed (signed_number neg z)) (nothing_above (number A low) (2 ^ length low))
+
+pub absolute_fits : (A : ℕ → Bool) (low value : List ℕ) (n x y : ℕ) (neg signed f : Bool) → length low ≡ n + 1 → length value ≡ n + 1 → x ≡ get_or low n x → y ≡ get_or value n y
+    → (if neg then number A value + number A low else number A value) ≡ (if neg then 2 ^ length low * bit (not (number A low == 0)) else number A low)
+    → (signed ≡ false → neg ≡ false) → f ≡ not (signed && (is_true A x && not (neg && is_true A y))) → IsTrue f ↔ InShape (length low) signed (signed_number neg (number A low))
+absolute_fits A low value n x y neg signed f ll lv lx vy turned plain e =
+    same_shape_at (length low) (length low) signed f (signed_number neg (number A low + 2 ^ length low * 0)) (signed_number neg (number A low)) refl (ap (signed_number neg) (nothing_above (number A low) (2 ^ length low)))
+    (sign_fits A low value n x y 0 neg false ll lv lx vy turned refl signed f plain e)
+
+pub in_range_value : (A : ℕ → Bool) (signed : Bool) (top word neg least greater past out : ℕ) → signed ≡ true
+    → is_true A least ≡ (is_true A neg && is_true A word) → greater ≡ complement_of least → is_true A past ≡ (is_true A top && is_true A greater) → out ≡ complement_of past
+    → is_true A out ≡ not (signed && (is_true A top && not (is_true A neg && is_true A word)))
+in_range_value A signed top word neg least greater past out es el eg ep eout =
     let g : is_true A greater ≡ not (is_true A neg && is_true A word) = ap (is_true A) eg ∙ (is_true-complement A least ∙ ap not el) in
-    let o : is_true A over ≡ (is_true A more || (is_true A top && not (is_true A neg && is_true A word))) = eo ∙ ap (λ z. is_true A more || z) (ep ∙ ap (λ z. is_true A top && z) g) in
-    ap (is_true A) eout ∙ (is_true-complement A over ∙ (ap not o ∙ ap (λ z. not (is_true A more || (z && (is_true A top && not (is_true A neg && is_true A word))))) (sym es)))
+    let o : is_true A past ≡ (is_true A top && not (is_true A neg && is_true A word)) = ep ∙ ap (λ z. is_true A top && z) g in
+    ap (is_true A) eout ∙ (is_true-complement A past ∙ (ap not o ∙ ap (λ z. not (z && (is_true A top && not (is_true A neg && is_true A word)))) (sym es)))
 
 pub in_range_plain : (A : ℕ → Bool) (signed : Bool) (more top word neg out : ℕ) → signed ≡ false → out ≡ complement_of more
     → is_true A out ≡ not (is_true A more || (signed && (is_true A top && not (is_true A neg && is_true A word))))

@@ -58,7 +58,7 @@ pub fn div_rem(
     let exact = divide(alloc, gates, x.word.as_slice(), y.word.as_slice())?;
     let negative = gates.xor(x.negative, y.negative)?;
     let digits = exact.quotient.as_slice();
-    let quotient = with_sign(alloc, gates, negative, digits, &digits[..0], signed)?;
+    let quotient = with_sign(alloc, gates, negative, digits, signed)?;
     let left = exact.remainder.as_slice();
     let remainder = negated_where(alloc, gates, left, x.negative)?;
     let fits = quotient.fits;

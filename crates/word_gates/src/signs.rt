@@ -5,7 +5,6 @@ ghost use Rattle.gate_core.specs.Table.{Agrees, IsLitOf, Grows};
 ghost use Rattle.word_gates.specs.Words.{bit, number, signed_number, word_value, IsWordOf};
 
 use crate::bits::or;
-use crate::parts::any;
 use crate::{Word, WordNum};
 use gate_core::Gates;
 use kv_base::{NoMemory, Sequence};
@@ -86,59 +85,51 @@ pub(crate) fn absolute_value(
     })
 }
 
-/// The number whose absolute value has these lower and upper bits, negative where the test is true, as a number of the
-/// lower bits' width, and whether it fits.
+/// The number of a sign and an absolute value, as a number of the absolute value's width, and whether it fits.
 pub(crate) fn with_sign(
     alloc: Global,
     gates: &mut Gates,
     negative: Lit,
-    low: &[Lit],
-    high: &[Lit],
+    absolute: &[Lit],
     signed: bool,
 ) -> Result<WordNum, NoMemory>
     requires test { IsLitOf gates.old negative }
-    requires low { IsWordOf gates.old low.now }
-    requires high { IsWordOf gates.old high.now }
-    requires some { 0 < length low.now }
-    ensures len { IfOk result (λ r. length r.value ≡ length low.now) }
+    requires absolute { IsWordOf gates.old absolute.now }
+    requires some { 0 < length absolute.now }
+    ensures len { IfOk result (λ r. length r.value ≡ length absolute.now) }
     ensures word { IfOk result (λ r. IsWordOf gates.new r.value) }
     ensures within { IfOk result (λ r. IsLitOf gates.new r.fits) }
-    ensures value { IfOk result (λ r. (A : ℕ → Bool) → Agrees A gates.new → word_value A signed r.value ≡ wrap_at (length low.now) signed (signed_number (is_true A negative) (number A low.now + 2 ^ length low.now * number A high.now))) }
-    ensures fits { IfOk result (λ r. (A : ℕ → Bool) → Agrees A gates.new → (signed ≡ false → is_true A negative ≡ false) → IsTrue (is_true A r.fits) ↔ InShape (length low.now) signed (signed_number (is_true A negative) (number A low.now + 2 ^ length low.now * number A high.now))) }
+    ensures value { IfOk result (λ r. (A : ℕ → Bool) → Agrees A gates.new → word_value A signed r.value ≡ wrap_at (length absolute.now) signed (signed_number (is_true A negative) (number A absolute.now))) }
+    ensures fits { IfOk result (λ r. (A : ℕ → Bool) → Agrees A gates.new → (signed ≡ false → is_true A negative ≡ false) → IsTrue (is_true A r.fits) ↔ InShape (length absolute.now) signed (signed_number (is_true A negative) (number A absolute.now))) }
     ensures grows { Grows gates.old gates.new }
 {
-    let value = negated_where(alloc, gates, low, negative)?;
-    let more = any(gates, high)?;
-    let top = low.len() - 1;
+    let value = negated_where(alloc, gates, absolute, negative)?;
+    let top = absolute.len() - 1;
     let bits = value.as_slice();
-    let fits = is_in_range(gates, negative, low[top], bits[top], more, signed)?;
+    let fits = is_in_range(gates, negative, absolute[top], bits[top], signed)?;
     Ok(WordNum { value, fits })
 }
 
-/// Whether a number is in the range of its width, from its sign, the top bits of its absolute value and of its word,
-/// and whether its absolute value has more bits. With a sign the least number's absolute value is one past the
-/// greatest number.
+/// Whether a number is in the range of its width, from its sign and the top bits of its absolute value and of its
+/// word. With a sign the least number's absolute value is one past the greatest number.
 fn is_in_range(
     gates: &mut Gates,
     negative: Lit,
     absolute_top: Lit,
     word_top: Lit,
-    more: Lit,
     signed: bool,
 ) -> Result<Lit, NoMemory>
     requires test { IsLitOf gates.old negative }
     requires absolute { IsLitOf gates.old absolute_top }
     requires word { IsLitOf gates.old word_top }
-    requires more { IsLitOf gates.old more }
     ensures within { IfOk result (IsLitOf gates.new) }
-    ensures value { IfOk result (λ l. (A : ℕ → Bool) → Agrees A gates.new → is_true A l ≡ not (is_true A more || (signed && (is_true A absolute_top && not (is_true A negative && is_true A word_top))))) }
+    ensures value { IfOk result (λ l. (A : ℕ → Bool) → Agrees A gates.new → is_true A l ≡ not (signed && (is_true A absolute_top && not (is_true A negative && is_true A word_top)))) }
     ensures grows { Grows gates.old gates.new }
 {
     if signed {
         let least = gates.and(negative, word_top)?;
         let past = gates.and(absolute_top, least.complement())?;
-        let over = or(gates, more, past)?;
-        return Ok(over.complement());
+        return Ok(past.complement());
     }
-    Ok(more.complement())
+    gates.constant(true)
 }

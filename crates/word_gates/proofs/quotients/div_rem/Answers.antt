@@ -1,11 +1,11 @@
-use Rattle.std.proofs.Common.{arith, ◌≡◌, ◌+◌, ◌*◌, ◌^◌, length, ap, sym, subst, ◌∙◌, false}
+use Rattle.std.proofs.Common.{arith, ◌≡◌, length, ap, sym, subst, ◌∙◌, false}
 use Rattle.kv_num.specs.Bits.{differ}
 use Rattle.kv_shape.specs.Shape.{wrap_at, InShape}
 use Rattle.kv_clause.specs.Literals.{is_true}
 use Rattle.word_gates.specs.Words.{number, signed_number, word_value}
 use Rattle.word_gates.proofs.Growth.{Grows-trans}
 use Rattle.word_gates.proofs.Totals.{same_shape_at}
-use Rattle.word_gates.proofs.Divisions.{signed_quotient_is, signed_remainder_is, remainder_shape, remainder_value, shape_of_word, whole_quotient}
+use Rattle.word_gates.proofs.Divisions.{signed_quotient_is, signed_remainder_is, remainder_shape, remainder_value, shape_of_word}
 use Rattle.word_gates.proofs.quotients.div_rem.Goals as goal
 
 pub returns-in_err-negative-clause-grows : goal.returns-in_err-negative-clause-grows
@@ -39,7 +39,7 @@ returns-clause-quotient c = λ A h some.
     let small = rw c.as_slice-4.ensures at (c.in_ok-exact.ensures.small A h3) in
     let exact = signed_quotient_is va vb (is_true A c.in_ok-x.x.negative) (is_true A c.in_ok-y.y.negative) neg (number A c.in_ok-x.x.word) ny (number A c.in_ok-exact.exact.quotient) (number A c.in_ok-exact.exact.remainder) ea eb (c.in_ok-negative.ensures.value A h4) whole small some in
     let len : length digits ≡ length c.args.a.now = omega (arith, ap length c.as_slice-digits.ensures, c.in_ok-exact.ensures.quotient_len, ap length c.as_slice-3.ensures, c.in_ok-x.ensures.len, ap length c.as_slice.ensures) in
-    c.in_ok-quotient.ensures.value A h5 ∙ (ap (λ k. wrap_at k s (signed_number neg (number A digits + 2 ^ length digits * 0))) len ∙ ap (wrap_at (length c.args.a.now) s) (whole_quotient A neg digits c.in_ok-exact.exact.quotient c.as_slice-digits.ensures ∙ exact))
+    c.in_ok-quotient.ensures.value A h5 ∙ (ap (λ k. wrap_at k s (signed_number neg (number A digits))) len ∙ ap (wrap_at (length c.args.a.now) s) (ap (λ z. signed_number neg (number A z)) c.as_slice-digits.ensures ∙ exact))
 
 pub returns-clause-fits : goal.returns-clause-fits
 returns-clause-fits c = λ A h some.
@@ -60,7 +60,7 @@ returns-clause-fits c = λ A h some.
     let small = rw c.as_slice-4.ensures at (c.in_ok-exact.ensures.small A h3) in
     let exact = signed_quotient_is va vb (is_true A c.in_ok-x.x.negative) (is_true A c.in_ok-y.y.negative) neg (number A c.in_ok-x.x.word) ny (number A c.in_ok-exact.exact.quotient) (number A c.in_ok-exact.exact.remainder) ea eb (c.in_ok-negative.ensures.value A h4) whole small some in
     let len : length digits ≡ length c.args.a.now = omega (arith, ap length c.as_slice-digits.ensures, c.in_ok-exact.ensures.quotient_len, ap length c.as_slice-3.ensures, c.in_ok-x.ensures.len, ap length c.as_slice.ensures) in
-    same_shape_at (length digits) (length c.args.a.now) s (is_true A c.in_ok-quotient.quotient.fits) (signed_number neg (number A digits + 2 ^ length digits * 0)) _ len (whole_quotient A neg digits c.in_ok-exact.exact.quotient c.as_slice-digits.ensures ∙ exact)
+    same_shape_at (length digits) (length c.args.a.now) s (is_true A c.in_ok-quotient.quotient.fits) (signed_number neg (number A digits)) _ len (ap (λ z. signed_number neg (number A z)) c.as_slice-digits.ensures ∙ exact)
     (c.in_ok-quotient.ensures.fits A h5 (λ (plain : s ≡ false). c.in_ok-negative.ensures.value A h4 ∙ (ap (λ z. differ z (is_true A c.in_ok-y.y.negative)) (c.in_ok-x.ensures.plain A h1 plain) ∙ c.in_ok-y.ensures.plain A h2 plain)))
 
 pub returns-clause-remainder : goal.returns-clause-remainder
