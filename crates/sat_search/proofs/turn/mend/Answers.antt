@@ -1,0 +1,12 @@
+use Rattle.std.proofs.Common.{ℕ, List, subst}
+use Rattle.sat_search.specs.declared.once.Once.{Once}
+use Rattle.sat_search.specs.Once.{OnceSays}
+use Rattle.sat_search.proofs.Flips.{flip_rank}
+use Rattle.sat_search.proofs.turn.mend.Goals as goal
+
+pub returns-in-Flipped : goal.returns-in-Flipped
+returns-in-Flipped c =
+    let p = c.args.parts.now in
+    let q = c.repair.new.parts in
+    let h = subst (λ (x : Once). OnceSays c.args.assumed.now p q x) c.in-Flipped.is c.in_ok-repair.ensures.says in
+    (h.0, h.1, h.2, flip_rank p.trail.steps.items q.trail.steps.items p.trail.truth.items p.trail.place.items p.trail.ok h.3)
