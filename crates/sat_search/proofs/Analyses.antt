@@ -77,6 +77,10 @@ module _ (F : List (List ℕ)) (steps : List Step) (truth : List Bool) (place : 
         low_false = λ l w. elim (mk.low_only l w) [ inl a ↦ absurd (omega arith) | inr b ↦ is_false l (subst (λ (x : ℕ). Contains c x) b.3 (at_index c b.0 b.1)) ];
         low_below = λ l w. elim (mk.low_only l w) [ inl a ↦ absurd (omega arith) | inr b ↦ b.4 ];
         room = let e = mk.size in omega arith;
+        only = λ v h. elim (mk.only v h) [
+          | inl a ↦ absurd (unmarked v a)
+          | inr b ↦ (complement_of (get_or c b.0 0), complement_variable (get_or c b.0 0) ∙ b.3, is_false (get_or c b.0 0) (at_index c b.0 b.1))
+        ];
       }
     where
       listed : (q : ℕ) → IsSet truth q → (m : ℕ) → IsSet truth (complement_of m) → m / 2 ≡ q / 2 → (low : List ℕ) → Contains low m → Contains low (complement_of q)
@@ -140,6 +144,10 @@ module _ (F : List (List ℕ)) (steps : List Step) (truth : List Bool) (place : 
         ];
         low_below = λ l w. elim (mk.low_only l w) [ inl a ↦ m.low_below l a | inr b ↦ b.4 ];
         room = let e = mk.size in let f = length-set old (p / 2) false in let r = m.room in omega arith;
+        only = λ v h. elim (mk.only v h) [
+          | inl a ↦ m.only v (was_set old (p / 2) v a)
+          | inr b ↦ (complement_of (get_or c b.0 0), complement_variable (get_or c b.0 0) ∙ b.3, others (get_or c b.0 0) (at_index c b.0 b.1) b.2)
+        ];
       }
     where
       was_set : (old : List Bool) (i v : ℕ) → IsSet (set old i false) v → IsSet old v
@@ -171,6 +179,7 @@ module _ (F : List (List ℕ)) (steps : List Step) (truth : List Bool) (place : 
     low_false = m.low_false;
     low_below = m.low_below;
     room = m.room;
+    only = m.only;
   }
 
   pub IsLearnt-from : (at : ℕ) (marks : List Bool) (low : List ℕ) → IsMarked F truth place floor (at + 1) marks low → IsNext steps marks floor at None → at < length steps → floor ≤ at → IsLearnt F truth place floor (low ++ complement_of (lit_at steps at) ∷ [])
@@ -222,3 +231,21 @@ module _ (F : List (List ℕ)) (steps : List Step) (truth : List Bool) (place : 
         | inr b ↦ let g : get_or place (l / 2) 0 < start = subst (λ (x : ℕ). get_or place x 0 < start) half b in
             let h = (site.trail.on top lt).2 in absurd (omega (arith, g, h))
       ]
+
+  -- each marked variable has a literal in the clause
+  pub marked_in : (at : ℕ) (marks : List Bool) (low : List ℕ) → IsMarked F truth place floor (at + 1) marks low → IsNext steps marks floor at None → at < length steps → (v : ℕ) → IsSet marks v → (l : ℕ) × (l / 2 ≡ v) × Contains (low ++ complement_of (lit_at steps at) ∷ []) l
+  marked_in at marks low m none lt v h =
+      let w = m.only v h in
+      let q : ℕ = w.0 in
+      let hq : IsSet marks (q / 2) = subst (λ (x : ℕ). IsSet marks x) (sym w.1) h in
+      let k : get_or place (q / 2) 0 < at + 1 = m.below q w.2 hq in (
+        complement_of q,
+        complement_variable q ∙ w.1,
+        elim (cases_eq (get_or place (q / 2) 0) at) [
+          | inl e ↦ subst (λ (x : ℕ). Contains (low ++ complement_of (lit_at steps at) ∷ []) (complement_of x)) (at_place q w.2 at e) (Contains-push low (complement_of (lit_at steps at)))
+          | inr ne ↦ elim (cases_lt (get_or place (q / 2) 0) floor) [
+            | inl under ↦ Contains-append_left low (complement_of (lit_at steps at) ∷ []) (complement_of q) (m.low_has q w.2 hq under)
+            | inr over ↦ absurd (none (get_or place (q / 2) 0) over (omega arith) (subst (λ (x : ℕ). IsSet marks (x / 2)) (sym (at_place q w.2 (get_or place (q / 2) 0) refl)) hq))
+          ]
+        ],
+      )

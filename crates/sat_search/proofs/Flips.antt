@@ -72,8 +72,8 @@ jump_length G old new truth start c j =
 
 -- what is ready stays so
 pub IsReady-make : (A : List ℕ) (p q : Parts) → IsReady A p → IsState q.store A q.trail.steps.items q.start → length q.trail.truth.items ≡ length p.trail.truth.items → AreInRange q.store (length p.trail.truth.items) → length q.store < 4294967296 → IsIndexed q.store q.index → length q.index ≡ length p.index
-    → length q.flags.items ≡ length p.flags.items → ((m : ℕ) → IsSet q.flags.items m → ⊥) → length q.marks.items ≡ length p.marks.items → IsReady A q
-IsReady-make A p q r s size range few ix lists flags unset marks = record {
+    → length q.flags.items ≡ length p.flags.items → ((m : ℕ) → IsSet q.flags.items m → ⊥) → length q.marks.items ≡ length p.marks.items → ((v : ℕ) → IsSet q.marks.items v → ⊥) → IsReady A q
+IsReady-make A p q r s size range few ix lists flags unset marks clean = record {
   state = s;
   range = subst (λ (x : ℕ). AreInRange q.store x) (sym size) range;
   few = few;
@@ -82,6 +82,7 @@ IsReady-make A p q r s size range few ix lists flags unset marks = record {
   flags = flags ∙ r.flags ∙ sym size;
   unset = unset;
   marks = let d = r.marks in omega arith;
+  clean = clean;
   small = let d = r.small in omega arith;
 }
 

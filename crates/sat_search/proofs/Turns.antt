@@ -72,8 +72,8 @@ on_read truth l i b lt e r is = subst (λ (x : ℕ). IsSet truth x) e (sym (get_
 
 pub TurnSays-after : (A : List ℕ) (p m q : Parts) (r : Turn) → m.store ≡ p.store → length m.trail.truth.items ≡ length p.trail.truth.items
     → rank (length p.trail.truth.items) (word m.trail.steps.items) ≤ rank (length p.trail.truth.items) (word p.trail.steps.items) → TurnSays A m q r → TurnSays A p q r
-TurnSays-after A p m q Met e size le h = (h.0 ∙ e, h.1, h.2, h.3)
-TurnSays-after A p m q Failed e size le h = (h.0 ∙ e, h.1, h.2)
+TurnSays-after A p m q Met e size le h = (h.0 ∙ e, h.1, h.2 ∙ size, h.3, h.4)
+TurnSays-after A p m q Failed e size le h = (h.0 ∙ e, h.1, h.2 ∙ size, h.3)
 TurnSays-after A p m q Learnt e size le h = (h.0, h.1 ∙ size, (h.2.0, h.2.1 ∙ ap (λ (x : List (List ℕ)). x ++ h.2.0 ∷ []) e, subst (λ (x : List (List ℕ)). IsNew x (length p.trail.truth.items) h.2.0) e (subst (λ (x : ℕ). IsNew m.store x h.2.0) size h.2.2)))
 TurnSays-after A p m q Moved e size le h =
     let g : rank (length p.trail.truth.items) (word q.trail.steps.items) < rank (length p.trail.truth.items) (word m.trail.steps.items) = subst (λ (x : ℕ). rank x (word q.trail.steps.items) < rank x (word m.trail.steps.items)) size h.3 in

@@ -23,6 +23,7 @@ pub record IsMarked (F : List (List ℕ)) (truth : List Bool) (place : List ℕ)
   pub low_false : (l : ℕ) → Contains low l → IsSet truth (complement_of l)
   pub low_below : (l : ℕ) → Contains low l → slice_index place (l / 2) < floor
   pub room : length truth ≤ 2 * length marks
+  pub only : (v : ℕ) → IsSet marks v → (q : ℕ) × (q / 2 ≡ v) × IsSet truth q
 
 -- a further marked place from `floor` on
 abbrev pub IsWitness : List Step → List Bool → ℕ → ℕ → Option ℕ → Type 0

@@ -38,6 +38,7 @@ pub record IsReady (A : List ℕ) (p : Parts) : Type 0 where
   pub flags : length p.flags.items ≡ length p.trail.truth.items
   pub unset : (m : ℕ) → IsSet p.flags.items m → ⊥
   pub marks : length p.trail.truth.items ≤ 2 * length p.marks.items
+  pub clean : (v : ℕ) → IsSet p.marks.items v → ⊥
   pub small : length p.trail.truth.items < 4294967296
 
 -- the clause follows from F, and is new

@@ -1,4 +1,4 @@
-ghost use Rattle.std.specs.Prelude.{◌≡◌, ◌≢◌, ℕ, ◌+◌, ◌*◌, ◌/◌, ◌%◌, ◌<◌, ◌≤◌, ◌⊎◌, Bool, true, false, length, slice_index, IfOk};
+ghost use Rattle.std.specs.Prelude.{◌≡◌, ◌≢◌, ℕ, ◌+◌, ◌*◌, ◌/◌, ◌%◌, ◌<◌, ◌≤◌, ◌⊎◌, Bool, true, false, length, slice_index, IfOk, OnOk};
 ghost use Rattle.std.specs.List.{Contains};
 ghost use Rattle.kv_clause.specs.Literals.{complement_of};
 ghost use Rattle.kv_clause.specs.Propagation.{clause_at};
@@ -8,7 +8,7 @@ ghost use Rattle.sat_search.specs.Mark.{IsMarkedAt, IsNext};
 ghost use Rattle.sat_search.specs.Analysis.{IsSite, IsMarked, IsWitness, IsLearnt};
 
 use crate::guide::Guide;
-use crate::mark::{mark_all, next_marked};
+use crate::mark::{mark_all, next_marked, unmark};
 use kv_base::NoMemory;
 use sat_engine::{Reason, Store, Trail, complement};
 use std::alloc::Global;
@@ -98,7 +98,8 @@ pub fn analyze(
     requires until { (m : ℕ) → Contains (clause_at store.now conflict) m → slice_index trail.now.place.items (m / 2) ≤ top }
     requires unmarked { (v : ℕ) → IsSet marks.old v → ⊥ }
     requires room { length trail.now.truth.items ≤ 2 * length marks.old }
-    ensures { IfOk result (λ c. IsLearnt store.now trail.now.truth.items trail.now.place.items floor c.items) }
+    ensures clean { OnOk result ((v : ℕ) → IsSet marks.new v → ⊥) }
+    ensures learnt { IfOk result (λ c. IsLearnt store.now trail.now.truth.items trail.now.place.items floor c.items) }
 {
     let mut low = Vec::new(alloc);
     let skip = trail.steps[top].lit;
@@ -119,5 +120,6 @@ pub fn analyze(
         witness = next_witness(trail, marks, floor, at, w);
     }
     low.push(complement(trail.steps[at].lit))?;
+    unmark(&low, marks);
     Ok(low)
 }

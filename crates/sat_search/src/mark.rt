@@ -1,4 +1,5 @@
 ghost use Rattle.std.specs.Prelude.{◌≡◌, ◌≢◌, ℕ, ◌+◌, ◌*◌, ◌/◌, ◌%◌, ◌<◌, ◌≤◌, ◌⊎◌, Bool, true, false, length, slice_index, OnOk};
+ghost use Rattle.std.specs.List.{Contains};
 ghost use Rattle.sat_engine.specs.Trail.{IsSet, lit_at};
 ghost use Rattle.sat_engine.specs.Look.{InRange};
 ghost use Rattle.sat_search.specs.Mark.{MarkedOne, MarkedAll, IsNext};
@@ -58,6 +59,16 @@ pub fn mark_all(
         mark_one(guide, m, place, start, floor, marks, low)?;
     }
     Ok(())
+}
+
+/// Unmarks the variables of a clause.
+pub fn unmark(clause: &[u32], marks: &mut [bool])
+    requires { InRange clause.now (2 * length marks.old) }
+    ensures { (v : ℕ) → IsSet marks.new v → IsSet marks.old v × ((l : ℕ) → Contains clause.now l → l / 2 ≢ v) }
+{
+    for lit in clause {
+        marks[(*lit / 2) as usize] = false;
+    }
 }
 
 /// The last marked place from `floor` on and before `top`.

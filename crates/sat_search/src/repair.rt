@@ -127,14 +127,6 @@ pub fn record_clause(
     Ok(number)
 }
 
-fn clear(marks: &mut [bool])
-    ensures { (v : ℕ) → IsSet marks.new v → ⊥ }
-{
-    for x in marks.iter_mut() {
-        *x = false;
-    }
-}
-
 /// Learns a clause from a false one, and unsets what was set after it would have had effect.
 pub fn learn(
     alloc: Global,
@@ -153,12 +145,13 @@ pub fn learn(
     requires state { IsState store.now assumed.now trail.old.steps.items start }
     requires spot { IsSpot store.now trail.old.steps.items trail.old.place.items start conflict spot }
     requires room { length trail.old.truth.items ≤ 2 * length marks.old }
+    requires unmarked { (v : ℕ) → IsSet marks.old v → ⊥ }
     ensures size { length trail.new.truth.items ≡ length trail.old.truth.items }
+    ensures clean { OnOk result ((v : ℕ) → IsSet marks.new v → ⊥) }
     ensures jump { IfOk result (λ c. IsJump store.now trail.old.steps.items trail.new.steps.items trail.new.truth.items start c.items) }
 {
     let end = next_choice(trail, spot.top + 1);
     rewind(trail, guide, end);
-    clear(marks);
     let clause = analyze(
         alloc, guide, store, trail, start, spot.floor, spot.top, conflict, marks,
     )?;

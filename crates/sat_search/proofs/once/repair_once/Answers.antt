@@ -36,13 +36,14 @@ returns-in-Unit c =
     let ml : (with_items p.marks c.learn.new.marks).items ≡ c.learn.new.marks = with_items_is p.marks c.learn.new.marks (omega (arith, c.learn.auto.marks, c.deref_mut.ensures.len)) in
     let fl_len : length (with_items p.flags c.earlier-found.new.flags).items ≡ length p.flags.items = ap length fl ∙ (omega (arith, c.earlier-found.auto.flags, ap length c.deref_mut-2.ensures.value)) in
     let ml_len : length (with_items p.marks c.learn.new.marks).items ≡ length p.marks.items = ap length ml ∙ (omega (arith, c.learn.auto.marks, ap length c.deref_mut.ensures.value)) in
+    let cl_no : (v : ℕ) → IsSet (with_items p.marks c.learn.new.marks).items v → ⊥ = λ v h. c.in_ok-clause.ensures.clean v (subst (λ (x : List Bool). IsSet x v) ml h) in
     let un : (m : ℕ) → IsSet (with_items p.flags c.earlier-found.new.flags).items m → ⊥ = λ m h. c.earlier-found.ensures.unset m (subst (λ (x : List Bool). IsSet x m) fl h) in
     let seen : Contains d l × AreFalseBut d t.truth.items l =
     subst (λ (x : List Bool). Contains d l × AreFalseBut d x l) c.deref-in-Some-found.ensures.value
     (subst (λ (x : List ℕ). Contains x l × AreFalseBut x c.deref-in-Some-found.result.now l) c.get.ensures c.in-Unit.ensures) in
     let state = jump_state F A F p.trail.steps.items t.steps.items c.push-in-Unit.new.self.steps.items t.truth.items t.place.items p.start cl l n c.requires.ready.state j t.ok c.in-Some-found.ensures.found.0 seen.0 seen.1 c.in_ok-push-in-Unit.ensures.ok in
     let size = c.in_ok-push-in-Unit.ensures.size ∙ c.learn.ensures.size in (
-      IsReady-make A p _ c.requires.ready state size c.requires.ready.range c.requires.ready.few c.requires.ready.indexed refl fl_len un ml_len,
+      IsReady-make A p _ c.requires.ready state size c.requires.ready.range c.requires.ready.few c.requires.ready.indexed refl fl_len un ml_len cl_no,
       size,
       refl,
       jump_flip F p.trail.steps.items t.steps.items c.push-in-Unit.new.self.steps.items t.truth.items p.start cl l n j c.in_ok-push-in-Unit.ensures.ok,
@@ -66,6 +67,7 @@ returns-in-False c =
     let ml : (with_items p.marks c.learn.new.marks).items ≡ c.learn.new.marks = with_items_is p.marks c.learn.new.marks (omega (arith, c.learn.auto.marks, c.deref_mut.ensures.len)) in
     let fl_len : length (with_items p.flags c.earlier-found.new.flags).items ≡ length p.flags.items = ap length fl ∙ (omega (arith, c.earlier-found.auto.flags, ap length c.deref_mut-2.ensures.value)) in
     let ml_len : length (with_items p.marks c.learn.new.marks).items ≡ length p.marks.items = ap length ml ∙ (omega (arith, c.learn.auto.marks, ap length c.deref_mut.ensures.value)) in
+    let cl_no : (v : ℕ) → IsSet (with_items p.marks c.learn.new.marks).items v → ⊥ = λ v h. c.in_ok-clause.ensures.clean v (subst (λ (x : List Bool). IsSet x v) ml h) in
     let un : (m : ℕ) → IsSet (with_items p.flags c.earlier-found.new.flags).items m → ⊥ = λ m h. c.earlier-found.ensures.unset m (subst (λ (x : List Bool). IsSet x m) fl h) in
     let no_good : AreFalse d t.truth.items =
     subst (λ (x : List Bool). AreFalse d x) c.deref-in-Some-found.ensures.value
@@ -73,7 +75,7 @@ returns-in-False c =
     let w = j.within in
     let state : IsState F A t.steps.items p.start = subst (λ (x : List Step). IsState F A x p.start) (sym j.is) (IsState-cut F A p.trail.steps.items p.start j.cut c.requires.ready.state j.start_le (omega arith)) in
     let shorter = jump_length F p.trail.steps.items t.steps.items t.truth.items p.start cl j in (
-      IsReady-make A p _ c.requires.ready state c.learn.ensures.size c.requires.ready.range c.requires.ready.few c.requires.ready.indexed refl fl_len un ml_len,
+      IsReady-make A p _ c.requires.ready state c.learn.ensures.size c.requires.ready.range c.requires.ready.few c.requires.ready.indexed refl fl_len un ml_len cl_no,
       record { size = c.learn.ensures.size },
       refl,
       c.in-Some-found.ensures.found.0,
@@ -118,6 +120,7 @@ returns-in-None c =
     let ml : (with_items p.marks c.learn.new.marks).items ≡ c.learn.new.marks = with_items_is p.marks c.learn.new.marks (omega (arith, c.learn.auto.marks, c.deref_mut.ensures.len)) in
     let fl_len : length (with_items p.flags c.earlier-found.new.flags).items ≡ length p.flags.items = ap length fl ∙ (omega (arith, c.earlier-found.auto.flags, ap length c.deref_mut-2.ensures.value)) in
     let ml_len : length (with_items p.marks c.learn.new.marks).items ≡ length p.marks.items = ap length ml ∙ (omega (arith, c.learn.auto.marks, ap length c.deref_mut.ensures.value)) in
+    let cl_no : (v : ℕ) → IsSet (with_items p.marks c.learn.new.marks).items v → ⊥ = λ v h. c.in_ok-clause.ensures.clean v (subst (λ (x : List Bool). IsSet x v) ml h) in
     let un : (m : ℕ) → IsSet (with_items p.flags c.earlier-found.new.flags).items m → ⊥ = λ m h. c.earlier-found.ensures.unset m (subst (λ (x : List Bool). IsSet x m) fl h) in
     let G : List (List ℕ) = F ++ cl ∷ [] in
     let r = c.in_ok-number-in-None.ensures in
@@ -131,7 +134,7 @@ returns-in-None c =
     let size = c.in_ok-push-in-None.ensures.size ∙ c.learn.ensures.size in
     let range1 : InRange cl (length p.trail.truth.items) = subst (λ (x : ℕ). InRange cl x) c.learn.ensures.size j.range in
     let range : AreInRange c.record_clause.new.store (length p.trail.truth.items) = subst (λ (x : List (List ℕ)). AreInRange x (length p.trail.truth.items)) (sym stored) (AreInRange-push F cl (length p.trail.truth.items) c.requires.ready.range range1) in (
-      IsReady-make A p _ c.requires.ready state size range r.4 r.2 r.3 fl_len un ml_len,
+      IsReady-make A p _ c.requires.ready state size range r.4 r.2 r.3 fl_len un ml_len cl_no,
       size,
       (
         cl,

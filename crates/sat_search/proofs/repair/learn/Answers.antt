@@ -32,7 +32,7 @@ pub backjump-requires-clause-range : goal.backjump-requires-clause-range
 backjump-requires-clause-range c =
     let m = c.rewind.new.trail in
     subst (λ (x : List ℕ). InRange x (length m.truth.items)) (sym c.deref.ensures.value)
-    (learnt_range c.args.store.now m.steps.items m.truth.items m.place.items c.args.spot.floor c.in_ok-clause.clause.items m.ok c.in_ok-clause.ensures)
+    (learnt_range c.args.store.now m.steps.items m.truth.items m.place.items c.args.spot.floor c.in_ok-clause.clause.items m.ok c.in_ok-clause.ensures.learnt)
 
 pub backjump-requires-clause-low : goal.backjump-requires-clause-low
 backjump-requires-clause-low c =
@@ -42,7 +42,7 @@ backjump-requires-clause-low c =
     let len : length m.steps.items ≡ c.next_choice-end.result = ap length c.rewind.ensures.steps ∙ length-take-le c.next_choice-end.result t.steps.items e.within in
     let sp = c.requires.spot in
     subst (λ (x : List ℕ). (k : ℕ) → k + 1 < length x → get_or m.place.items (get_or x k 0 / 2) 0 < length m.steps.items) (sym c.deref.ensures.value)
-    (λ k lt. let p = learnt_low c.args.store.now m.truth.items m.place.items c.args.spot.floor c.in_ok-clause.clause.items c.in_ok-clause.ensures k lt in omega (arith, p, len, sp.floor, e.above))
+    (λ k lt. let p = learnt_low c.args.store.now m.truth.items m.place.items c.args.spot.floor c.in_ok-clause.clause.items c.in_ok-clause.ensures.learnt k lt in omega (arith, p, len, sp.floor, e.above))
 
 pub returns-clause-jump : goal.returns-clause-jump
 returns-clause-jump c =
@@ -53,4 +53,4 @@ returns-clause-jump c =
     let sp = c.requires.spot in
     let u : IsTrail b.steps.items b.truth.items m.place.items = subst (λ (x : List ℕ). IsTrail b.steps.items b.truth.items x) c.backjump.ensures.place b.ok in
     IsJump-from c.args.store.now t.steps.items m.steps.items b.steps.items m.truth.items b.truth.items m.place.items c.args.start c.args.spot.floor c.next_choice-end.result c.backjump.result c.in_ok-clause.clause.items m.ok u c.rewind.ensures.steps e.within (omega (arith, sp.floor, e.above)) sp.start_le sp.choice
-    c.in_ok-clause.ensures (subst (λ (x : List ℕ). IsBack m.steps.items m.place.items c.args.start x c.backjump.result) c.deref.ensures.value c.backjump.ensures.back) c.backjump.ensures.steps c.backjump.ensures.size
+    c.in_ok-clause.ensures.learnt (subst (λ (x : List ℕ). IsBack m.steps.items m.place.items c.args.start x c.backjump.result) c.deref.ensures.value c.backjump.ensures.back) c.backjump.ensures.steps c.backjump.ensures.size

@@ -20,7 +20,7 @@ returns-then-index c =
     let p = c.args.parts.now in
     let w = subst (λ (x : List Bool). Contains c.args.assumed.now c.in-Some.a × (IsSet x c.in-Some.a → ⊥)) c.deref.ensures.value c.in-Some.ensures in
     let on : IsSet p.trail.truth.items (complement_of c.in-Some.a) = on_read p.trail.truth.items (complement_of c.in-Some.a) c.complement.result c.index.result.now (omega (arith, c.complement.ensures, c.requires.assumed w.0.0 w.0.1, get_or_default c.args.assumed.now w.0.0 0 c.in-Some.a w.0.1, w.0.2, p.trail.ok.even)) c.complement.ensures c.index.ensures c.if-index.true in
-    (refl, c.requires.ready, refuted_by p.store c.args.assumed.now p.trail.steps.items p.trail.truth.items p.trail.place.items p.start c.in-Some.a p.trail.ok c.requires.ready.state w.0 w.1 on)
+    (refl, c.requires.ready, refl, refuted_by p.store c.args.assumed.now p.trail.steps.items p.trail.truth.items p.trail.place.items p.start c.in-Some.a p.trail.ok c.requires.ready.state w.0 w.1 on)
 
 pub returns-in-Some : goal.returns-in-Some
 returns-in-Some c =
@@ -33,7 +33,7 @@ returns-in-Some c =
     let why : Contains A (lit_at (p.trail.steps.items ++ s ∷ []) (length p.trail.steps.items)) = subst (λ (x : ℕ). Contains A x) (sym (lit_at-last p.trail.steps.items s)) c.in-Some.ensures.0 in
     let state : IsState p.store A t.steps.items p.start = subst (λ (x : List Step). IsState p.store A x p.start) (sym e) (IsState-choose p.store A p.trail.steps.items p.start l Assumed c.requires.ready.state why (λ f a w. let bad : Assumed ≡ Free = f in cc)) in
     let sz = c.in_ok-push-in-Some.ensures.size in (
-      IsReady-make A p _ c.requires.ready state sz c.requires.ready.range c.requires.ready.few c.requires.ready.indexed refl refl c.requires.ready.unset refl,
+      IsReady-make A p _ c.requires.ready state sz c.requires.ready.range c.requires.ready.few c.requires.ready.indexed refl refl c.requires.ready.unset refl c.requires.ready.clean,
       sz,
       refl,
       push_rank p.trail.steps.items t.steps.items s t.truth.items t.place.items (length p.trail.truth.items) e t.ok sz,
@@ -50,7 +50,7 @@ returns-in-Some-choose c =
     let all : (a : ℕ) → Contains A a → IsSet p.trail.truth.items a = subst (λ (x : List Bool). (a : ℕ) → Contains A a → IsSet x a) c.deref.ensures.value c.in-None.ensures in
     let state : IsState p.store A t.steps.items p.start = subst (λ (x : List Step). IsState p.store A x p.start) (sym e) (IsState-choose p.store A p.trail.steps.items p.start l Free c.requires.ready.state tt (λ f a w. Before-set p.trail.steps.items p.trail.truth.items p.trail.place.items p.trail.ok a (all a w))) in
     let sz = c.in_ok-push-in-Some-choose.ensures.size in (
-      IsReady-make A p _ c.requires.ready state sz c.requires.ready.range c.requires.ready.few c.requires.ready.indexed refl refl c.requires.ready.unset refl,
+      IsReady-make A p _ c.requires.ready state sz c.requires.ready.range c.requires.ready.few c.requires.ready.indexed refl refl c.requires.ready.unset refl c.requires.ready.clean,
       sz,
       refl,
       push_rank p.trail.steps.items t.steps.items s t.truth.items t.place.items (length p.trail.truth.items) e t.ok sz,
@@ -72,7 +72,8 @@ returns-in-None-first_unmet c =
     let T : List Bool = p.trail.truth.items in
     let F : List (List ℕ) = p.store in (
       refl,
-      IsReady-make c.args.assumed.now p _ c.requires.ready c.requires.ready.state refl c.requires.ready.range c.requires.ready.few c.requires.ready.indexed refl refl c.requires.ready.unset refl,
+      IsReady-make c.args.assumed.now p _ c.requires.ready c.requires.ready.state refl c.requires.ready.range c.requires.ready.few c.requires.ready.indexed refl refl c.requires.ready.unset refl c.requires.ready.clean,
+      refl,
       subst (λ (x : List Bool). (i : ℕ) → i < length F → HasTrue (clause_at F i) x) c.deref-2.ensures.value c.in-None-first_unmet.ensures,
       subst (λ (x : List Bool). (a : ℕ) → Contains c.args.assumed.now a → IsSet x a) c.deref.ensures.value c.in-None.ensures,
     )

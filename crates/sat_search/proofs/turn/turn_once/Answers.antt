@@ -16,7 +16,7 @@ mend-requires-clause-ready c =
     let t = c.propagate.new.trail in
     let A : List ℕ = c.args.assumed.now in
     let state : IsState p.store A t.steps.items p.start = IsState-grow p.store A p.trail.steps.items t.steps.items p.start c.propagate.ensures.grows c.requires.ready.state in
-    IsReady-make A p _ c.requires.ready state c.propagate.ensures.size c.requires.ready.range c.requires.ready.few c.requires.ready.indexed refl refl c.requires.ready.unset refl
+    IsReady-make A p _ c.requires.ready state c.propagate.ensures.size c.requires.ready.range c.requires.ready.few c.requires.ready.indexed refl refl c.requires.ready.unset refl c.requires.ready.clean
 
 pub go_on-requires-clause-ready : goal.go_on-requires-clause-ready
 go_on-requires-clause-ready c =
@@ -24,7 +24,7 @@ go_on-requires-clause-ready c =
     let t = c.propagate.new.trail in
     let A : List ℕ = c.args.assumed.now in
     let state : IsState p.store A t.steps.items p.start = IsState-grow p.store A p.trail.steps.items t.steps.items p.start c.propagate.ensures.grows c.requires.ready.state in
-    IsReady-make A p _ c.requires.ready state c.propagate.ensures.size c.requires.ready.range c.requires.ready.few c.requires.ready.indexed refl refl c.requires.ready.unset refl
+    IsReady-make A p _ c.requires.ready state c.propagate.ensures.size c.requires.ready.range c.requires.ready.few c.requires.ready.indexed refl refl c.requires.ready.unset refl c.requires.ready.clean
 
 pub returns-in-Ok-Some : goal.returns-in-Ok-Some
 returns-in-Ok-Some c =
