@@ -1,0 +1,8 @@
+//! Questions about clauses, with answers that carry what shows them: an assignment, or a log of clauses that follow one
+//! after another.
+#![tactic(auto)]
+
+mod asking;
+
+pub use asking::{Asked, ask};
+
