@@ -15,5 +15,3 @@ mod solver;
 pub use poll::{NeverPoll, Poll, PollAt};
 pub use solver::{Answer, Solver};
 
-#[cfg(test)]
-mod tests;

@@ -3,6 +3,7 @@
 #![tactic(auto)]
 
 mod asking;
+mod kept;
 
 pub use asking::{Asked, ask};
-
+pub use kept::{Kept, KeptAnswer};
