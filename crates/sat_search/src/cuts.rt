@@ -10,6 +10,7 @@ pub fn rewind(trail: &mut Trail, guide: &mut Guide, n: usize)
     ensures size { length trail.new.truth.items ≡ length trail.old.truth.items }
     ensures place { trail.new.place.items ≡ trail.old.place.items }
 {
+    guide.cut(n);
     while trail.steps.len() > n {
         if let Some(step) = trail.steps.pop() {
             trail.truth[step.lit as usize] = false;

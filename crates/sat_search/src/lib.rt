@@ -8,6 +8,7 @@
 mod analysis;
 mod choice;
 mod cuts;
+mod forget;
 mod guide;
 mod index;
 mod mark;

@@ -62,12 +62,15 @@ pub fn repair_once(
                 &clause,
                 watched,
             )?;
+            let levels = parts.guide.levels_of(&clause, &parts.trail)?;
+            parts.guide.rate(number, levels)?;
             parts.trail.push(lit, Reason::Clause(number))?;
             Ok(Once::Learnt)
         }
         Some(number) => match look_at(parts.store.get(number as usize), &parts.trail.truth, lit) {
             Seen::Unit => {
                 parts.trail.push(lit, Reason::Clause(number))?;
+                parts.guide.use_again(number);
                 Ok(Once::Flipped)
             }
             Seen::False => Ok(Once::Again(number)),

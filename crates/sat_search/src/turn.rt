@@ -1,4 +1,4 @@
-ghost use Rattle.std.specs.Prelude.{◌≡◌, ℕ, ◌+◌, ◌*◌, ◌/◌, ◌%◌, ◌<◌, ◌≤◌, ◌⊎◌, Bool, true, false, length, IfOk, MatchOption, MatchBool};
+ghost use Rattle.std.specs.Prelude.{◌≡◌, ℕ, ◌+◌, ◌*◌, ◌/◌, ◌%◌, ◌<◌, ◌≤◌, ◌⊎◌, Bool, true, false, length, IfOk, OnOk, MatchOption, MatchBool};
 ghost use Rattle.std.specs.List.{Contains};
 ghost use Rattle.kv_clause.specs.Literals.{complement_of};
 ghost use Rattle.kv_clause.specs.Propagation.{clause_at};
@@ -9,6 +9,7 @@ ghost use Rattle.sat_search.specs.Turn.{HasTrue, TurnSays};
 
 use crate::choice::next_choice;
 use crate::cuts::rewind;
+use crate::forget::watch_again;
 use crate::guide::Guide;
 use crate::once::{Once, repair};
 use crate::parts::Parts;
@@ -125,6 +126,8 @@ fn go_on(alloc: Global, parts: &mut Parts, assumed: &[u32]) -> Result<Turn, NoMe
             if parts.trail.truth[complement(a) as usize] {
                 return Ok(Turn::Refuted);
             }
+            let at = parts.trail.steps.len();
+            parts.guide.chosen(at)?;
             parts.trail.push(a, Reason::Assumed)?;
             return Ok(Turn::Moved);
         }
@@ -132,6 +135,8 @@ fn go_on(alloc: Global, parts: &mut Parts, assumed: &[u32]) -> Result<Turn, NoMe
     }
     match choose(&parts.trail, &mut parts.guide) {
         Some(lit) => {
+            let at = parts.trail.steps.len();
+            parts.guide.chosen(at)?;
             parts.trail.push(lit, Reason::Free)?;
             return Ok(Turn::Moved);
         }
@@ -157,6 +162,26 @@ fn tidy(parts: &mut Parts, assumed: &[u32], restart: bool)
     }
 }
 
+// Forgets some learnt clauses, where that is due when the search begins anew.
+fn forget(
+    alloc: Global,
+    parts: &mut Parts,
+    assumed: &[u32],
+    restart: bool,
+) -> Result<(), NoMemory>
+    requires ready { IsReady assumed.now parts.old }
+    ensures ready { OnOk result (IsReady assumed.now parts.new) }
+    ensures store { parts.new.store ≡ parts.old.store }
+    ensures trail { parts.new.trail ≡ parts.old.trail }
+{
+    if !restart || !parts.guide.is_due() {
+        return Ok(());
+    }
+    let watches = watch_again(alloc, &parts.store, &parts.trail, &mut parts.guide)?;
+    parts.watches = watches;
+    Ok(())
+}
+
 fn mend(alloc: Global, parts: &mut Parts, assumed: &[u32], conflict: u32) -> Result<Turn, NoMemory>
     requires ready { IsReady assumed.now parts.old }
     requires conflict { conflict < length parts.old.store }
@@ -168,6 +193,7 @@ fn mend(alloc: Global, parts: &mut Parts, assumed: &[u32], conflict: u32) -> Res
         Once::Learnt => {
             let restart = parts.guide.learnt();
             tidy(parts, assumed, restart);
+            forget(alloc, parts, assumed, restart)?;
             Ok(Turn::Learnt)
         }
         Once::Flipped => Ok(Turn::Moved),
