@@ -14,4 +14,3 @@ mod solver;
 
 pub use poll::{NeverPoll, Poll, PollAt};
 pub use solver::{Answer, Solver};
-

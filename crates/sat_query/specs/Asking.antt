@@ -1,9 +1,9 @@
 -- What an answer about clauses says.
-use Rattle.std.specs.Prelude.{ℕ, ◌≡◌, ◌+◌, ◌<◌, ◌≤◌, List, length, Bool}
+use Rattle.std.specs.Prelude.{ℕ, ◌≡◌, ◌+◌, ◌-◌, ◌<◌, ◌≤◌, List, length, Bool}
 use Rattle.kv_clause.specs.Literals.{ClausesAreBelow, MeetsAll, truths}
 use Rattle.kv_clause.specs.Propagation.{Spent}
 use Rattle.proof_checker.specs.Checking.{IsRefutation}
-use Rattle.sat_core.specs.Counts.{raised}
+use Rattle.sat_core.specs.Counts.{raised, raised_by}
 use Rattle.sat_query.specs.declared.asking.Asked.{Asked}
 use Rattle.sat_query.specs.declared.asking.Asked.TheVariants.{Sat, Unsat, Spent as SpentWith, Stopped}
 
@@ -28,3 +28,10 @@ YesSays before now Stopped = now ≡ raised before
 YesSays before now (Sat a) = now ≡ before
 YesSays before now (Unsat log) = now ≡ before
 YesSays before now (SpentWith log) = now ≡ before
+
+-- the poll was asked at least once for each clause of the log that was learnt
+abbrev pub AskedOften : ℕ → ℕ → Asked → Type 0
+AskedOften before now (Sat a) = Unit {0}
+AskedOften before now (Unsat log) = raised_by (length log - 1) before ≤ now
+AskedOften before now (SpentWith log) = raised_by (length log) before ≤ now
+AskedOften before now Stopped = Unit {0}

@@ -1,6 +1,6 @@
 ghost use Rattle.std.specs.Prelude.{ℕ, ◌≡◌, ◌+◌, ◌<◌, ◌≤◌, ◌++◌, ◌∷◌, [], false, length, IfOk, OnOk};
 ghost use Rattle.kv_clause.specs.Literals.{ClausesAreBelow};
-ghost use Rattle.sat_query.specs.Asking.{AskedSays, YesSays};
+ghost use Rattle.sat_query.specs.Asking.{AskedOften, AskedSays, YesSays};
 
 use kv_base::{Copied, NoMemory, Sequence};
 use kv_clause::{Assignment, Clauses, Cnf, Log};
@@ -49,6 +49,7 @@ pub fn ask<P: Poll>(alloc: Global, cnf: &Cnf, budget: u32, poll: &mut P) -> Resu
     ensures answer { IfOk result (λ asked. AskedSays cnf.now.vars cnf.now.clauses budget asked) }
     ensures poll { P.ready poll.new }
     ensures held { P.held poll.new ≡ P.held poll.old }
+    ensures asks { IfOk result (λ asked. AskedOften (P.asks poll.old) (P.asks poll.new) asked) }
     ensures yeses { IfOk result (λ asked. YesSays (P.yeses poll.old) (P.yeses poll.new) asked) }
 {
     let mut solver = begin(alloc, &cnf.clauses)?;

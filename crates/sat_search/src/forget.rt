@@ -5,7 +5,11 @@ use std::alloc::Global;
 
 // How late a literal was set false: an open one is the latest.
 fn lateness(trail: &Trail, lit: u32) -> usize {
-    let is_false = trail.truth.get(complement(lit) as usize).copied().unwrap_or(false);
+    let is_false = trail
+        .truth
+        .get(complement(lit) as usize)
+        .copied()
+        .unwrap_or(false);
     if !is_false {
         return usize::MAX;
     }

@@ -8,6 +8,7 @@ const RUN: u64 = 100;
 
 /// After how many learnt clauses some are forgotten, and how many more it takes each further time.
 const FORGET: u64 = 2000;
+
 const FORGET_MORE: u64 = 300;
 
 /// The levels of a clause that is forgotten.

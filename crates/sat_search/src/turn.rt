@@ -163,12 +163,7 @@ fn tidy(parts: &mut Parts, assumed: &[u32], restart: bool)
 }
 
 // Forgets some learnt clauses, where that is due when the search begins anew.
-fn forget(
-    alloc: Global,
-    parts: &mut Parts,
-    assumed: &[u32],
-    restart: bool,
-) -> Result<(), NoMemory>
+fn forget(alloc: Global, parts: &mut Parts, assumed: &[u32], restart: bool) -> Result<(), NoMemory>
     requires ready { IsReady assumed.now parts.old }
     ensures ready { OnOk result (IsReady assumed.now parts.new) }
     ensures store { parts.new.store ≡ parts.old.store }

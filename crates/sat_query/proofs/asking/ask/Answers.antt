@@ -1,9 +1,10 @@
-use Rattle.std.proofs.Common.{ℕ, ◌≡◌, ◌+◌, ◌<◌, ◌≤◌, ◌++◌, List, [], ◌∷◌, Bool, length, drop, refl, sym, ap, subst, ◌∙◌, arith}
+use Rattle.std.proofs.Common.{ℕ, ◌≡◌, ◌+◌, ◌-◌, ◌<◌, ◌≤◌, ◌++◌, List, [], ◌∷◌, Bool, length, drop, refl, sym, ap, subst, ◌∙◌, arith}
 use Rattle.std.proofs.lemmas.List.{length_push}
 use Rattle.kv_clause.specs.Literals.{AreBelow, ClausesAreBelow, MeetsAll, AreTrue, truths}
 use Rattle.kv_clause.specs.Propagation.{Refuted, Spent}
 use Rattle.sat_core.specs.declared.solver.Answer.{Answer}
 use Rattle.sat_core.specs.Solving.{AnswerSays, IsLearnt}
+use Rattle.sat_core.specs.Counts.{raised_by}
 use Rattle.sat_query.specs.Asking.{NoneMeets, IsShort}
 use Rattle.sat_query.proofs.Logs.{met_front, log_length, refutation, spent}
 use Rattle.sat_query.proofs.asking.ask.Goals as goal
@@ -62,3 +63,26 @@ returns-in-Spent-clause-answer g c =
     let says = subst (λ (x : Answer). AnswerSays t.vars s.clauses t.clauses c.new.result c.args.budget x) c.in-Spent.is e.answer in
     let w = spent_with t.vars c.args.cnf.now.vars s.clauses t.clauses t.log s.log c.args.cnf.now.clauses c.in_ok-copy-in-Spent.field-0 c.args.budget b.clauses e.learnt e.log b.log (c.in_ok-copy-in-Spent.ensures ∙ c.log-in-Spent.ensures) says.1 in
     (says.0, w.0, λ all. w.1 (e.vars.least c.args.cnf.now.vars (b.vars c.args.cnf.now.vars all) (none_asked c.args.cnf.now.vars c.new.result c.new.ensures)))
+
+-- as many asks as clauses of the log
+often : (n : ℕ) (F G L M : List (List ℕ)) (many before now : ℕ) → IsLearnt n F G → L ≡ M ++ drop (length F) G → M ≡ [] → many ≡ length L → raised_by (length G - length F) before ≤ now → raised_by many before ≤ now
+often n F G L M many before now l el em ea h =
+    let log : L ≡ drop (length F) G = el ∙ ap (λ (x : List (List ℕ)). x ++ drop (length F) G) em in
+    let size = log_length n F G L l log in
+    let same : many ≡ length G - length F = omega arith in
+    subst (λ (k : ℕ). raised_by k before ≤ now) (sym same) h
+
+pub returns-in-Unsat-clause-asks : goal.returns-in-Unsat-clause-asks
+returns-in-Unsat-clause-asks g c =
+    let e = c.in_ok-found.ensures in
+    let s = c.in_ok-solver.solver in
+    let t = c.solve-2.new.self in
+    let log : c.in_ok-ended-in-Unsat.field-0 ≡ t.log ++ [] ∷ [] = c.in_ok-ended-in-Unsat.ensures ∙ ap (λ (x : List (List ℕ)). x ++ [] ∷ []) c.log.ensures in
+    often t.vars s.clauses t.clauses t.log s.log (length c.in_ok-ended-in-Unsat.field-0 - 1) (g.P.Poll.asks c.args.poll.now) (g.P.Poll.asks c.solve-2.new.poll) e.learnt e.log c.in_ok-solver.ensures.log (omega (arith, ap length log, length_push t.log [])) e.asks
+
+pub returns-in-Spent-clause-asks : goal.returns-in-Spent-clause-asks
+returns-in-Spent-clause-asks g c =
+    let e = c.in_ok-found.ensures in
+    let s = c.in_ok-solver.solver in
+    let t = c.solve-2.new.self in
+    often t.vars s.clauses t.clauses t.log s.log (length c.in_ok-copy-in-Spent.field-0) (g.P.Poll.asks c.args.poll.now) (g.P.Poll.asks c.solve-2.new.poll) e.learnt e.log c.in_ok-solver.ensures.log (ap length (c.in_ok-copy-in-Spent.ensures ∙ c.log-in-Spent.ensures)) e.asks
