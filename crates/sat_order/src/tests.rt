@@ -23,6 +23,7 @@ fn active_variables_come_first(rt: HostRuntime) -> Result<(), Fail> {
         assert!(rt; var < order.reserved());
         order.put(var);
     }
+    assert!(rt; order.reserved() == 9);
     order.bump(7);
     order.decay();
     order.bump(4);
@@ -34,9 +35,7 @@ fn active_variables_come_first(rt: HostRuntime) -> Result<(), Fail> {
 #[test]
 fn lengths_of_runs(rt: HostRuntime) {
     let wanted = [1u64, 1, 2, 1, 1, 2, 4, 1, 1, 2, 1, 1, 2, 4, 8];
-    let mut i = 1;
-    for length in wanted {
-        assert!(rt; luby(i) == length);
-        i += 1;
+    for i in 1..16u64 {
+        assert!(rt; luby(i) == wanted[(i - 1) as usize]);
     }
 }
