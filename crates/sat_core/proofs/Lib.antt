@@ -1,0 +1,4 @@
+pub mod Finds
+pub mod Idle
+pub mod Rooms
+pub mod Answering

@@ -1,0 +1,14 @@
+use Rattle.std.proofs.Common.{◌≡◌, length, ◌∙◌, arith}
+use Rattle.sat_order.proofs.Arranged.{members-exchange}
+use Rattle.sat_order.proofs.heap.Heap.sink.Goals as goal
+
+pub loop-at-preserved : goal.loop-at-preserved
+loop-at-preserved c =
+    let old = c.loop-at.self in
+    let new = c.exchange.new.self in
+    let i = c.loop-at.invariant in
+    let b = c.better_below-below.ensures in
+    record {
+      size = c.exchange.ensures.size ∙ i.size;
+      same = members-exchange old.vars.items old.places.items old.ok c.loop-at.at c.better_below-below.result (omega (arith, b.high, b.low, i.size)) (omega (arith, b.high, i.size)) new.vars.items new.places.items c.args.count c.exchange.ensures.places c.exchange.ensures.size new.ok.room (omega (arith, b.high, b.low)) b.high ∙ i.same;
+    }

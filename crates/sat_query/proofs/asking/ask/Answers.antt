@@ -1,0 +1,88 @@
+use Rattle.std.proofs.Common.{ℕ, ◌≡◌, ◌+◌, ◌-◌, ◌<◌, ◌≤◌, ◌++◌, List, [], ◌∷◌, Bool, length, drop, refl, sym, ap, subst, ◌∙◌, arith}
+use Rattle.std.proofs.lemmas.List.{length_push}
+use Rattle.kv_clause.specs.Literals.{AreBelow, ClausesAreBelow, MeetsAll, AreTrue, truths}
+use Rattle.kv_clause.specs.Propagation.{Refuted, Spent}
+use Rattle.sat_core.specs.declared.solver.Answer.{Answer}
+use Rattle.sat_core.specs.Solving.{AnswerSays, IsLearnt}
+use Rattle.sat_core.specs.Counts.{raised_by}
+use Rattle.sat_query.specs.Asking.{NoneMeets, IsShort}
+use Rattle.sat_query.proofs.Logs.{met_front, log_length, refutation, spent}
+use Rattle.sat_query.proofs.asking.ask.Goals as goal
+
+-- the log of a refutation, with the empty clause at its end
+short : (n : ℕ) (F G L M E A : List (List ℕ)) (asked : List ℕ) (budget : ℕ) → F ≡ E → IsLearnt n F G → L ≡ M ++ drop (length F) G → M ≡ [] → A ≡ L ++ [] ∷ [] → asked ≡ [] → (0 < budget → length G ≤ length F + budget) → Refuted G asked → IsShort E budget A
+short n F G L M E A asked budget ef l el em ea none within r =
+    let log : L ≡ drop (length F) G = el ∙ ap (λ (x : List (List ℕ)). x ++ drop (length F) G) em in
+    let size = log_length n F G L l log in
+    subst (λ (x : List (List ℕ)). IsShort x budget A) ef (subst (λ (x : List (List ℕ)). IsShort F budget x) (sym ea) (record {
+      refutes = refutation n F G L l log (subst (λ (x : List ℕ). Refuted G x) none r);
+      within = λ b. omega (arith, within b, length_push L []);
+    }))
+
+none_meets : (F E : List (List ℕ)) (asked : List ℕ) → F ≡ E → asked ≡ [] → ((A : ℕ → Bool) → MeetsAll A F → AreTrue A asked → ⊥) → NoneMeets E
+none_meets F E asked ef none off A m = off A (subst (MeetsAll A) (sym ef) m) (subst (AreTrue A) (sym none) refl)
+
+pub returns-in-Sat-clause-answer : goal.returns-in-Sat-clause-answer
+returns-in-Sat-clause-answer g c =
+    let e = c.in_ok-found.ensures in
+    let s = c.in_ok-solver.solver in
+    let t = c.solve-2.new.self in
+    let says = subst (λ (x : Answer). AnswerSays t.vars s.clauses t.clauses c.new.result c.args.budget x) c.in-Sat.is e.answer in
+    subst (MeetsAll (truths c.in-Sat.found)) c.in_ok-solver.ensures.clauses (met_front t.vars s.clauses t.clauses e.learnt (truths c.in-Sat.found) says.clauses)
+
+pub returns-in-Unsat-clause-answer : goal.returns-in-Unsat-clause-answer
+returns-in-Unsat-clause-answer g c =
+    let e = c.in_ok-found.ensures in
+    let b = c.in_ok-solver.ensures in
+    let s = c.in_ok-solver.solver in
+    let t = c.solve-2.new.self in
+    let says = subst (λ (x : Answer). AnswerSays t.vars s.clauses t.clauses c.new.result c.args.budget x) c.in-Unsat.is e.answer in
+    let log : c.in_ok-ended-in-Unsat.field-0 ≡ t.log ++ [] ∷ [] = c.in_ok-ended-in-Unsat.ensures ∙ ap (λ (x : List (List ℕ)). x ++ [] ∷ []) c.log.ensures in (
+      none_meets s.clauses c.args.cnf.now.clauses c.new.result b.clauses c.new.ensures says.1,
+      short t.vars s.clauses t.clauses t.log s.log c.args.cnf.now.clauses c.in_ok-ended-in-Unsat.field-0 c.new.result c.args.budget b.clauses e.learnt e.log b.log log c.new.ensures e.within says.0,
+    )
+
+none_asked : (n : ℕ) (asked : List ℕ) → asked ≡ [] → AreBelow n asked
+none_asked n asked e k d lt = absurd (omega (arith, ap length e))
+
+spent_with : (n m : ℕ) (F G L M E A : List (List ℕ)) (budget : ℕ) → F ≡ E → IsLearnt n F G → L ≡ M ++ drop (length F) G → M ≡ [] → A ≡ L → length G ≡ length F + budget → (length A ≡ budget) × (n ≤ m → Spent m E budget A)
+spent_with n m F G L M E A budget ef l el em ea full =
+    let log : L ≡ drop (length F) G = el ∙ ap (λ (x : List (List ℕ)). x ++ drop (length F) G) em in
+    let size = log_length n F G L l log in
+    let many : length L ≡ budget = omega arith in (
+      ap length ea ∙ many,
+      λ le. subst (λ (x : List (List ℕ)). Spent m x budget A) ef (subst (λ (x : List (List ℕ)). Spent m F budget x) (sym ea) (spent n F G L l log m budget le many)),
+    )
+
+pub returns-in-Spent-clause-answer : goal.returns-in-Spent-clause-answer
+returns-in-Spent-clause-answer g c =
+    let e = c.in_ok-found.ensures in
+    let b = c.in_ok-solver.ensures in
+    let s = c.in_ok-solver.solver in
+    let t = c.solve-2.new.self in
+    let says = subst (λ (x : Answer). AnswerSays t.vars s.clauses t.clauses c.new.result c.args.budget x) c.in-Spent.is e.answer in
+    let w = spent_with t.vars c.args.cnf.now.vars s.clauses t.clauses t.log s.log c.args.cnf.now.clauses c.in_ok-copy-in-Spent.field-0 c.args.budget b.clauses e.learnt e.log b.log (c.in_ok-copy-in-Spent.ensures ∙ c.log-in-Spent.ensures) says.1 in
+    (says.0, w.0, λ all. w.1 (e.vars.least c.args.cnf.now.vars (b.vars c.args.cnf.now.vars all) (none_asked c.args.cnf.now.vars c.new.result c.new.ensures)))
+
+-- as many asks as clauses of the log
+often : (n : ℕ) (F G L M : List (List ℕ)) (many before now : ℕ) → IsLearnt n F G → L ≡ M ++ drop (length F) G → M ≡ [] → many ≡ length L → raised_by (length G - length F) before ≤ now → raised_by many before ≤ now
+often n F G L M many before now l el em ea h =
+    let log : L ≡ drop (length F) G = el ∙ ap (λ (x : List (List ℕ)). x ++ drop (length F) G) em in
+    let size = log_length n F G L l log in
+    let same : many ≡ length G - length F = omega arith in
+    subst (λ (k : ℕ). raised_by k before ≤ now) (sym same) h
+
+pub returns-in-Unsat-clause-asks : goal.returns-in-Unsat-clause-asks
+returns-in-Unsat-clause-asks g c =
+    let e = c.in_ok-found.ensures in
+    let s = c.in_ok-solver.solver in
+    let t = c.solve-2.new.self in
+    let log : c.in_ok-ended-in-Unsat.field-0 ≡ t.log ++ [] ∷ [] = c.in_ok-ended-in-Unsat.ensures ∙ ap (λ (x : List (List ℕ)). x ++ [] ∷ []) c.log.ensures in
+    often t.vars s.clauses t.clauses t.log s.log (length c.in_ok-ended-in-Unsat.field-0 - 1) (g.P.Poll.asks c.args.poll.now) (g.P.Poll.asks c.solve-2.new.poll) e.learnt e.log c.in_ok-solver.ensures.log (omega (arith, ap length log, length_push t.log [])) e.asks
+
+pub returns-in-Spent-clause-asks : goal.returns-in-Spent-clause-asks
+returns-in-Spent-clause-asks g c =
+    let e = c.in_ok-found.ensures in
+    let s = c.in_ok-solver.solver in
+    let t = c.solve-2.new.self in
+    often t.vars s.clauses t.clauses t.log s.log (length c.in_ok-copy-in-Spent.field-0) (g.P.Poll.asks c.args.poll.now) (g.P.Poll.asks c.solve-2.new.poll) e.learnt e.log c.in_ok-solver.ensures.log (ap length (c.in_ok-copy-in-Spent.ensures ∙ c.log-in-Spent.ensures)) e.asks

@@ -1,0 +1,20 @@
+-- What the answers of a kept solver say.
+use Rattle.std.specs.Prelude.{ℕ, ◌≡◌, ◌+◌, ◌<◌, List, length, Bool}
+use Rattle.kv_clause.specs.Literals.{MeetsAll, AreTrue, truths}
+use Rattle.sat_core.specs.Counts.{raised}
+use Rattle.sat_query.specs.declared.kept.KeptAnswer.{KeptAnswer}
+use Rattle.sat_query.specs.declared.kept.KeptAnswer.TheVariants.{Sat, Unsat, Spent, Stopped}
+
+-- the answer about the clauses F, where the log was `before` and is `log`
+abbrev pub KeptSays : List (List ℕ) → List (List ℕ) → List (List ℕ) → List ℕ → ℕ → KeptAnswer → Type 0
+KeptSays F before log asked budget (Sat a) = MeetsAll (truths a) F × AreTrue (truths a) asked
+KeptSays F before log asked budget Unsat = (A : ℕ → Bool) → MeetsAll A F → AreTrue A asked → ⊥
+KeptSays F before log asked budget (Spent shown) = (0 < budget) × (shown ≡ log) × (length log ≡ length before + budget)
+KeptSays F before log asked budget Stopped = Unit {0}
+
+-- the poll said yes exactly where the answer is Stopped
+abbrev pub YesSays : ℕ → ℕ → KeptAnswer → Type 0
+YesSays before now Stopped = now ≡ raised before
+YesSays before now (Sat a) = now ≡ before
+YesSays before now Unsat = now ≡ before
+YesSays before now (Spent log) = now ≡ before

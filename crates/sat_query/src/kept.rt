@@ -1,0 +1,125 @@
+ghost use Rattle.std.specs.Prelude.{ℕ, ◌≡◌, ◌+◌, ◌-◌, ◌≤◌, ◌++◌, ◌∷◌, [], drop, length, true, false, IsErr, IfOk, OnOk, OnErr};
+ghost use Rattle.sat_core.specs.Counts.{raised_by};
+ghost use Rattle.sat_core.specs.Solving.{IsLearnt};
+ghost use Rattle.sat_query.specs.Keeping.{KeptSays, YesSays};
+
+use kv_base::{Copied, NoMemory};
+use kv_clause::{Assignment, Clause, Lits, Log};
+use sat_core::{Answer, Poll, Solver};
+use std::alloc::Global;
+use std::marker::Model;
+
+/// What a kept solver answers.
+#[derive(Debug, Drop)]
+pub enum KeptAnswer {
+    /// This assignment meets all clauses added, and the asked literals are true.
+    Sat(Assignment),
+    /// No assignment does.
+    Unsat,
+    /// The budget is spent: the whole log, which grew by so many clauses.
+    Spent(Log),
+    /// The poll said yes.
+    Stopped,
+}
+
+/// A solver that is kept from one question to the next. Contracts see what a `Solver` shows; once it was refused
+/// memory, it answers `NoMemory` from then on.
+#[derive(Drop)]
+pub struct Kept {
+    alloc: Global,
+    solver: Solver,
+    is_refused: bool,
+}
+
+impl Model for Kept {
+    ghost use Rattle.std.specs.Prelude.{◌≡◌, false};
+    ghost use Rattle.sat_core.specs.Held.{Held};
+
+    ghost Value = { Held };
+
+    ghost view = { λ k. record { clauses = k.solver.clauses; log = k.solver.log; vars = k.solver.vars; refused = k.is_refused } };
+}
+
+// Asks the solver.
+fn asked_of<P: Poll>(
+    alloc: Global,
+    solver: &mut Solver,
+    asked: &Lits,
+    budget: u32,
+    poll: &mut P,
+) -> Result<KeptAnswer, NoMemory>
+    requires { P.ready poll.old }
+    ensures learnt { OnOk result (IsLearnt solver.new.vars solver.old.clauses solver.new.clauses) }
+    ensures log { OnOk result (solver.new.log ≡ solver.old.log ++ drop (length solver.old.clauses) solver.new.clauses) }
+    ensures answer { IfOk result (λ answer. KeptSays solver.old.clauses solver.old.log solver.new.log asked.now budget answer) }
+    ensures poll { P.ready poll.new }
+    ensures held { P.held poll.new ≡ P.held poll.old }
+    ensures asks { OnOk result (raised_by (length solver.new.clauses - length solver.old.clauses) (P.asks poll.old) ≤ P.asks poll.new) }
+    ensures yeses { IfOk result (λ answer. YesSays (P.yeses poll.old) (P.yeses poll.new) answer) }
+{
+    match solver.solve(asked, budget, poll)? {
+        Answer::Sat(found) => Ok(KeptAnswer::Sat(found)),
+        Answer::Unsat => Ok(KeptAnswer::Unsat),
+        Answer::Spent => Ok(KeptAnswer::Spent(solver.log().copy(alloc)?)),
+        Answer::Stopped => Ok(KeptAnswer::Stopped),
+    }
+}
+
+impl Kept {
+    /// No clauses. It takes no memory.
+    pub fn new(alloc: Global) -> Kept
+        ensures { result ≡ record { clauses = []; log = []; vars = 0; refused = false } }
+    {
+        Kept {
+            alloc,
+            solver: Solver::new(alloc),
+            is_refused: false,
+        }
+    }
+
+    /// Adds a clause.
+    pub fn add(&mut self, clause: &Clause) -> Result<(), NoMemory>
+        ensures clauses { OnOk result (self.new.clauses ≡ self.old.clauses ++ clause.now ∷ []) }
+        ensures log { OnOk result (self.new.log ≡ self.old.log) }
+        ensures working { OnOk result (self.new.refused ≡ false) }
+        ensures broken { OnErr result (self.new.refused ≡ true) }
+        ensures refused { self.old.refused ≡ true → IsErr result }
+    {
+        if self.is_refused {
+            return Err(NoMemory);
+        }
+        self.is_refused = true;
+        self.solver.add(clause)?;
+        self.is_refused = false;
+        Ok(())
+    }
+
+    /// Searches for an assignment that meets all clauses and makes the asked literals true, with a budget of clauses to
+    /// learn, none where it is 0. A yes of the poll is its last ask.
+    pub fn ask<P: Poll>(
+        &mut self,
+        asked: &Lits,
+        budget: u32,
+        poll: &mut P,
+    ) -> Result<KeptAnswer, NoMemory>
+        requires { P.ready poll.old }
+        ensures learnt { OnOk result (IsLearnt self.new.vars self.old.clauses self.new.clauses) }
+        ensures log { OnOk result (self.new.log ≡ self.old.log ++ drop (length self.old.clauses) self.new.clauses) }
+        ensures answer { IfOk result (λ answer. KeptSays self.old.clauses self.old.log self.new.log asked.now budget answer) }
+        ensures working { OnOk result (self.new.refused ≡ false) }
+        ensures broken { OnErr result (self.new.refused ≡ true) }
+        ensures refused { self.old.refused ≡ true → IsErr result }
+        ensures poll { P.ready poll.new }
+        ensures held { P.held poll.new ≡ P.held poll.old }
+        ensures asks { OnOk result (raised_by (length self.new.clauses - length self.old.clauses) (P.asks poll.old) ≤ P.asks poll.new) }
+        ensures yeses { IfOk result (λ answer. YesSays (P.yeses poll.old) (P.yeses poll.new) answer) }
+    {
+        if self.is_refused {
+            return Err(NoMemory);
+        }
+        self.is_refused = true;
+        let answer = asked_of(self.alloc, &mut self.solver, asked, budget, poll)?;
+        self.is_refused = false;
+        Ok(answer)
+    }
+}

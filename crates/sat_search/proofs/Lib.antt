@@ -1,0 +1,9 @@
+pub mod Derivations
+pub mod Ranks
+pub mod Marks
+pub mod Analyses
+pub mod StepReads
+pub mod States
+pub mod Repairs
+pub mod Flips
+pub mod Turns

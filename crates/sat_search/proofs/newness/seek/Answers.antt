@@ -1,0 +1,17 @@
+use Rattle.std.proofs.Common.{ℕ, ◌≡◌, ◌+◌, ◌<◌, [], List, get_or, length, subst, sym, ap, arith, below_more, ◌∙◌}
+use Rattle.std.specs.List.{Contains}
+use Rattle.std.proofs.lemmas.List.{get_or_default}
+use Rattle.kv_clause.specs.Propagation.{clause_at}
+use Rattle.sat_engine.specs.Trail.{IsSet}
+use Rattle.sat_search.proofs.newness.seek.Goals as goal
+
+pub returns : goal.returns
+returns c = λ i lt inc.
+    let w = c.requires.indexed i lt in
+    let v = inc w.0 w.1 in
+    let e : get_or c.args.clause.now v.0 0 ≡ w.0 = get_or_default c.args.clause.now v.0 0 w.0 v.1 ∙ v.2 in
+    c.loop-m.invariant v.0 (omega (arith, v.1)) i (subst (λ (x : ℕ). Contains (get_or c.args.index.now x []) i) (sym e) w.2) lt (λ m h. c.requires.flagged m (inc m h))
+
+pub loop-m-preserved : goal.loop-m-preserved
+loop-m-preserved c = below_more _ _ c.loop-m.invariant
+    (λ i w lt h. c.in-None.ensures i (subst (λ (x : List ℕ). Contains x i) (sym c.get.ensures) w) lt h)

@@ -1,0 +1,5 @@
+use Rattle.std.proofs.Common.{◌<◌, length}
+use Rattle.sat_search.proofs.repair.rarest.Given as goal
+
+abbrev pub invariant-loop-i : goal.invariant-loop-i
+invariant-loop-i l = l.best < length l.clause

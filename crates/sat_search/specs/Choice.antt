@@ -1,0 +1,15 @@
+use Rattle.std.specs.Prelude.{ℕ, ◌≡◌, ◌/◌, ◌<◌, ◌≤◌, List, length, slice_index, Bool, true, false, Option, None, Some}
+use Rattle.sat_engine.specs.declared.trail.Step.{Step}
+use Rattle.sat_engine.specs.Trail.{reason_at}
+use Rattle.sat_search.specs.State.{is_choice}
+
+-- the greatest place of the first n literals
+abbrev pub IsLastPlace : List ℕ → ℕ → List ℕ → Option ℕ → Type 0
+IsLastPlace c n place None = n ≡ 0
+IsLastPlace c n place (Some t) = ((k : ℕ) → k < n → slice_index place (slice_index c k / 2) ≤ t) × ((k : ℕ) × (k < n) × (slice_index place (slice_index c k / 2) ≡ t))
+
+abbrev pub IsChoiceAt : List Step → ℕ → Type 0
+IsChoiceAt steps i = is_choice (reason_at steps i) ≡ true
+
+abbrev pub NoChoice : List Step → ℕ → ℕ → Type 0
+NoChoice steps low high = (i : ℕ) → low ≤ i → i < high → is_choice (reason_at steps i) ≡ false

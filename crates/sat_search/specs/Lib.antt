@@ -1,0 +1,9 @@
+pub mod Mark
+pub mod Analysis
+pub mod New
+pub mod Rank
+pub mod State
+pub mod Choice
+pub mod Repair
+pub mod Once
+pub mod Turn

@@ -1,0 +1,26 @@
+//! One turn of a search for an assignment: propagation, learning from a false clause, a step back, and the next choice.
+//!
+//! No proof rests on which literal is chosen, on the watches, or on when a search begins anew. Each clause that is
+//! learnt is new: an index seeks an earlier clause inside it, and where there is one, that is the reason for the
+//! step instead. So a search ends.
+#![tactic(auto)]
+
+mod analysis;
+mod choice;
+mod cuts;
+mod forget;
+mod guide;
+mod index;
+mod mark;
+mod newness;
+mod once;
+mod parts;
+mod repair;
+mod turn;
+
+pub use cuts::rewind;
+pub use guide::Guide;
+pub use index::Index;
+pub use parts::Parts;
+pub use repair::record_clause;
+pub use turn::{Turn, turn_once};

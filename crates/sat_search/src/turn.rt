@@ -1,0 +1,221 @@
+ghost use Rattle.std.specs.Prelude.{◌≡◌, ℕ, ◌+◌, ◌*◌, ◌/◌, ◌%◌, ◌<◌, ◌≤◌, ◌⊎◌, Bool, true, false, length, IfOk, OnOk, MatchOption, MatchBool};
+ghost use Rattle.std.specs.List.{Contains};
+ghost use Rattle.kv_clause.specs.Literals.{complement_of};
+ghost use Rattle.kv_clause.specs.Propagation.{clause_at};
+ghost use Rattle.sat_engine.specs.Trail.{IsSet};
+ghost use Rattle.sat_engine.specs.Look.{InRange, AreInRange, AreFalse};
+ghost use Rattle.sat_search.specs.State.{IsReady};
+ghost use Rattle.sat_search.specs.Turn.{HasTrue, TurnSays};
+
+use crate::choice::next_choice;
+use crate::cuts::rewind;
+use crate::forget::watch_again;
+use crate::guide::Guide;
+use crate::once::{Once, repair};
+use crate::parts::Parts;
+use kv_base::NoMemory;
+use sat_engine::{Reason, Store, Trail, complement, propagate};
+use std::alloc::Global;
+
+/// What a turn of the search led to.
+#[derive(Clone, Copy, Debug)]
+pub enum Turn {
+    Met,
+    Refuted,
+    Learnt,
+    Moved,
+}
+
+fn has_true(clause: &[u32], truth: &[bool]) -> bool
+    requires { InRange clause.now (length truth.now) }
+    ensures { MatchBool result (HasTrue clause.now truth.now) ((m : ℕ) → Contains clause.now m → IsSet truth.now m → ⊥) }
+{
+    for m in clause {
+        if truth[*m as usize] {
+            return true;
+        }
+    }
+    false
+}
+
+/// The first clause with no true literal.
+fn first_unmet(store: &Store, truth: &[bool]) -> Option<u32>
+    requires few { length store.now < 4294967296 }
+    requires range { AreInRange store.now (length truth.now) }
+    ensures { MatchOption result
+        ((i : ℕ) → i < length store.now → HasTrue (clause_at store.now i) truth.now)
+        (λ i. (i < length store.now) × ((m : ℕ) → Contains (clause_at store.now i) m → IsSet truth.now m → ⊥)) }
+{
+    let many = store.len();
+    let mut i: u32 = 0;
+    while (i as usize) < many {
+        if !has_true(store.get(i as usize), truth) {
+            return Some(i);
+        }
+        i += 1;
+    }
+    None
+}
+
+/// A literal that is neither true nor false.
+fn first_open(truth: &[bool]) -> Option<u32>
+    requires small { length truth.now < 4294967296 }
+    requires even { length truth.now % 2 ≡ 0 }
+    ensures { MatchOption result
+        ((l : ℕ) → l < length truth.now → IsSet truth.now l ⊎ IsSet truth.now (complement_of l))
+        (λ l. (l < length truth.now) × (IsSet truth.now l → ⊥) × (IsSet truth.now (complement_of l) → ⊥)) }
+{
+    let mut l: u32 = 0;
+    while (l as usize) < truth.len() {
+        if !truth[l as usize] && !truth[complement(l) as usize] {
+            return Some(l);
+        }
+        l += 1;
+    }
+    None
+}
+
+fn is_open(truth: &[bool], lit: u32) -> bool
+    requires even { length truth.now % 2 ≡ 0 }
+    ensures { result ≡ true → (lit < length truth.now) × (IsSet truth.now lit → ⊥) × (IsSet truth.now (complement_of lit) → ⊥) }
+{
+    (lit as usize) < truth.len() && !truth[lit as usize] && !truth[complement(lit) as usize]
+}
+
+/// An open literal, the guide's if that is one.
+fn choose(trail: &Trail, guide: &mut Guide) -> Option<u32>
+    requires small { length trail.now.truth.items < 4294967296 }
+    ensures { MatchOption result
+        ((l : ℕ) → l < length trail.now.truth.items → IsSet trail.now.truth.items l ⊎ IsSet trail.now.truth.items (complement_of l))
+        (λ l. (l < length trail.now.truth.items) × (IsSet trail.now.truth.items l → ⊥) × (IsSet trail.now.truth.items (complement_of l) → ⊥)) }
+{
+    match guide.choose(&trail.truth) {
+        Some(lit) => {
+            if is_open(&trail.truth, lit) {
+                return Some(lit);
+            }
+        }
+        None => {}
+    }
+    first_open(&trail.truth)
+}
+
+/// The first assumption that is not true.
+fn first_unset(assumed: &[u32], truth: &[bool]) -> Option<u32>
+    requires { InRange assumed.now (length truth.now) }
+    ensures { MatchOption result
+        ((a : ℕ) → Contains assumed.now a → IsSet truth.now a)
+        (λ a. Contains assumed.now a × (IsSet truth.now a → ⊥)) }
+{
+    for a in assumed {
+        if !truth[*a as usize] {
+            return Some(*a);
+        }
+    }
+    None
+}
+
+/// Sets the next literal, by an assumption or by choice; where all are set, sees whether each clause is met.
+fn go_on(alloc: Global, parts: &mut Parts, assumed: &[u32]) -> Result<Turn, NoMemory>
+    requires ready { IsReady assumed.now parts.old }
+    requires assumed { InRange assumed.now (length parts.old.trail.truth.items) }
+    ensures { IfOk result (λ r. TurnSays assumed.now parts.old parts.new r) }
+{
+    match first_unset(assumed, &parts.trail.truth) {
+        Some(a) => {
+            if parts.trail.truth[complement(a) as usize] {
+                return Ok(Turn::Refuted);
+            }
+            let at = parts.trail.steps.len();
+            parts.guide.chosen(at)?;
+            parts.trail.push(a, Reason::Assumed)?;
+            return Ok(Turn::Moved);
+        }
+        None => {}
+    }
+    match choose(&parts.trail, &mut parts.guide) {
+        Some(lit) => {
+            let at = parts.trail.steps.len();
+            parts.guide.chosen(at)?;
+            parts.trail.push(lit, Reason::Free)?;
+            return Ok(Turn::Moved);
+        }
+        None => {}
+    }
+    match first_unmet(&parts.store, &parts.trail.truth) {
+        None => Ok(Turn::Met),
+        Some(conflict) => mend(alloc, parts, assumed, conflict),
+    }
+}
+
+/// Moves `start` up to the first choice, and cuts the trail there for a restart.
+fn tidy(parts: &mut Parts, assumed: &[u32], restart: bool)
+    requires ready { IsReady assumed.now parts.old }
+    ensures ready { IsReady assumed.now parts.new }
+    ensures store { parts.new.store ≡ parts.old.store }
+    ensures size { length parts.new.trail.truth.items ≡ length parts.old.trail.truth.items }
+{
+    let first = next_choice(&parts.trail, parts.start);
+    parts.start = first;
+    if restart {
+        rewind(&mut parts.trail, &mut parts.guide, first);
+    }
+}
+
+// Forgets some learnt clauses, where that is due when the search begins anew.
+fn forget(alloc: Global, parts: &mut Parts, assumed: &[u32], restart: bool) -> Result<(), NoMemory>
+    requires ready { IsReady assumed.now parts.old }
+    ensures ready { OnOk result (IsReady assumed.now parts.new) }
+    ensures store { parts.new.store ≡ parts.old.store }
+    ensures trail { parts.new.trail ≡ parts.old.trail }
+{
+    if !restart || !parts.guide.is_due() {
+        return Ok(());
+    }
+    let watches = watch_again(alloc, &parts.store, &parts.trail, &mut parts.guide)?;
+    parts.watches = watches;
+    Ok(())
+}
+
+fn mend(alloc: Global, parts: &mut Parts, assumed: &[u32], conflict: u32) -> Result<Turn, NoMemory>
+    requires ready { IsReady assumed.now parts.old }
+    requires conflict { conflict < length parts.old.store }
+    requires is_false { AreFalse (clause_at parts.old.store conflict) parts.old.trail.truth.items }
+    ensures { IfOk result (λ r. TurnSays assumed.now parts.old parts.new r) }
+{
+    match repair(alloc, parts, assumed, conflict)? {
+        Once::Refuted => Ok(Turn::Refuted),
+        Once::Learnt => {
+            let restart = parts.guide.learnt();
+            tidy(parts, assumed, restart);
+            forget(alloc, parts, assumed, restart)?;
+            Ok(Turn::Learnt)
+        }
+        Once::Flipped => Ok(Turn::Moved),
+        Once::Again(_) => unreachable!(),
+    }
+}
+
+/// Propagates, and then repairs the trail or goes on.
+pub fn turn_once(
+    alloc: Global,
+    parts: &mut Parts,
+    assumed: &[u32],
+    from: usize,
+) -> Result<Turn, NoMemory>
+    requires ready { IsReady assumed.now parts.old }
+    requires assumed { InRange assumed.now (length parts.old.trail.truth.items) }
+    ensures { IfOk result (λ r. TurnSays assumed.now parts.old parts.new r) }
+{
+    match propagate(
+        alloc,
+        &parts.store,
+        &mut parts.trail,
+        &mut parts.watches,
+        from,
+    ) {
+        Err(e) => Err(e),
+        Ok(Some(conflict)) => mend(alloc, parts, assumed, conflict),
+        Ok(None) => go_on(alloc, parts, assumed),
+    }
+}
