@@ -1,7 +1,7 @@
 -- What exchanging two variables does to the set.
-use Rattle.std.proofs.Common.{ℕ, ◌≡◌, ◌≢◌, ◌+◌, ◌<◌, ◌≤◌, ◌++◌, ◌↔◌, inl, inr, List, [], ◌∷◌, length, get_or, set, take, map, Bool, true, false, ltb, refl, sym, ap, subst, ◌∙◌, arith}
+use Rattle.std.proofs.Common.{ℕ, ◌≡◌, ◌≢◌, ◌+◌, ◌<◌, ◌≤◌, ◌↔◌, inl, inr, List, length, get_or, set, take, Bool, true, false, ltb, refl, sym, ap, subst, ◌∙◌, arith}
 use Rattle.std.proofs.lemmas.Bool.{cases_eq, cases_lt, ltb-true, lt-ltb, false≢true}
-use Rattle.std.proofs.lemmas.List.{length-set, length-map, length-take-le, get_or-map, get_or-take, get_or-set_same, get_or-set_other, same_lists, get_or_default, get_or_past}
+use Rattle.std.proofs.lemmas.List.{length-set, length-map, length-take-le, get_or-map, get_or-take, get_or-set_same, get_or-set_other, same_lists, get_or_past}
 use Rattle.sat_order.specs.Members.{IsIn, IsEmpty, members, IsArranged}
 
 below : (p count : ℕ) → p < count → ltb p count ≡ true

@@ -1,20 +1,19 @@
-use Rattle.std.proofs.Common.{ℕ, ◌≡◌, ◌≢◌, ◌+◌, ◌-◌, ◌*◌, ◌/◌, ◌%◌, ◌<◌, ◌≤◌, ◌⊎◌, ◌++◌, inl, inr, List, [], ◌∷◌, map, length, get_or, set, Bool, true, false, None, Some, Option, refl, sym, ap, subst, ◌∙◌, arith}
+use Rattle.std.proofs.Common.{ℕ, ◌≡◌, ◌≢◌, ◌+◌, ◌*◌, ◌/◌, ◌<◌, ◌≤◌, ◌++◌, inl, inr, List, [], ◌∷◌, map, length, get_or, set, Bool, false, None, refl, sym, ap, subst, ◌∙◌, arith}
 use Rattle.std.specs.List.{Contains}
-use Rattle.std.proofs.lemmas.Bool.{cases_eq, cases_lt, cases_Bool, false≢true}
+use Rattle.std.proofs.lemmas.Bool.{cases_eq, cases_lt, false≢true}
 use Rattle.std.proofs.lemmas.List.{length-set, length-map, get_or-map, get_or-set_same, get_or-set_other, get_or_default, set_past}
-use Rattle.std.proofs.lemmas.List.Elements.{Contains-push, Contains-append_left, Contains-push_cases, Contains-get_or}
+use Rattle.std.proofs.lemmas.List.Elements.{Contains-push, Contains-append_left, Contains-get_or}
 use Rattle.kv_clause.specs.Literals.{complement_of}
-use Rattle.kv_clause.specs.Propagation.{clause_at, Derived, given, unit, Conflict, HasComplements, Follows}
+use Rattle.kv_clause.specs.Propagation.{clause_at, Derived, given, unit}
 use Rattle.kv_clause.proofs.Truths.{complement_twice, complement_variable}
 use Rattle.sat_search.proofs.Derivations.{Derived-wider}
-use Rattle.sat_engine.specs.declared.trail.Reason.{Reason}
-use Rattle.sat_engine.specs.declared.trail.Reason.TheVariants.{Free, Assumed, Clause}
+use Rattle.sat_engine.specs.declared.trail.Reason.TheVariants.{Clause}
 use Rattle.sat_engine.specs.declared.trail.Step.{Step}
-use Rattle.sat_engine.specs.Trail.{IsSet, IsTrail, lit_at, reason_at, Before}
-use Rattle.sat_engine.specs.Look.{AreInRange, AreFalse, AreFalseBut}
+use Rattle.sat_engine.specs.Trail.{IsSet, IsTrail, lit_at}
+use Rattle.sat_engine.specs.Look.{AreFalse, AreFalseBut}
 use Rattle.sat_engine.specs.Grow.{IsImplied}
 use Rattle.sat_search.specs.Mark.{IsMarkedAt, IsNext, MarkedAll}
-use Rattle.sat_search.specs.Analysis.{IsSite, IsMarked, IsWitness, IsLearnt}
+use Rattle.sat_search.specs.Analysis.{IsSite, IsMarked, IsLearnt}
 
 -- a literal and its complement do not both stand in a trail
 pub apart : (steps : List Step) (truth : List Bool) (place : List ℕ) → IsTrail steps truth place → (l : ℕ) → IsSet truth l → IsSet truth (complement_of l) → ⊥

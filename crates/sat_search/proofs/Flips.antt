@@ -1,17 +1,13 @@
-use Rattle.std.proofs.Common.{ℕ, zero, suc, ◌≡◌, ◌≢◌, ◌+◌, ◌-◌, ◌*◌, ◌/◌, ◌%◌, ◌<◌, ◌≤◌, ◌⊎◌, ◌++◌, inl, inr, List, [], ◌∷◌, map, length, get_or, take, drop, set, Bool, true, false, refl, sym, ap, subst, ◌∙◌, arith}
+use Rattle.std.proofs.Common.{ℕ, ◌≡◌, ◌<◌, ◌≤◌, ◌++◌, inl, inr, List, [], ◌∷◌, length, take, Bool, refl, sym, ap, subst, ◌∙◌, arith}
 use Rattle.std.specs.List.{Contains}
-use Rattle.std.proofs.lemmas.Bool.{cases_eq, cases_lt}
-use Rattle.std.proofs.lemmas.List.{length-append, length-take-le, length_push, get_or_push, get_or_append_left, get_or-take, take-take}
-use Rattle.std.proofs.lemmas.List.Elements.{Contains-get_or}
-use Rattle.kv_clause.specs.Literals.{complement_of}
-use Rattle.kv_clause.specs.Propagation.{clause_at, Derived, Conflict, HasComplements, Follows}
+use Rattle.std.proofs.lemmas.Bool.{cases_lt}
+use Rattle.std.proofs.lemmas.List.{length-append, length-take-le, get_or_push, get_or_append_left, get_or-take, take-take}
+use Rattle.kv_clause.specs.Propagation.{clause_at, Conflict}
 use Rattle.sat_search.specs.Rank.{rank}
-use Rattle.sat_engine.specs.declared.trail.Reason.{Reason}
-use Rattle.sat_engine.specs.declared.trail.Reason.TheVariants.{Free, Assumed, Clause}
+use Rattle.sat_engine.specs.declared.trail.Reason.TheVariants.{Clause}
 use Rattle.sat_engine.specs.declared.trail.Step.{Step}
-use Rattle.sat_engine.specs.Trail.{none_step, IsSet, IsTrail, lit_at, reason_at, Before}
-use Rattle.sat_engine.specs.Look.{InRange, AreInRange, AreFalse, AreFalseBut}
-use Rattle.sat_engine.specs.Grow.{Grows}
+use Rattle.sat_engine.specs.Trail.{none_step, IsSet, IsTrail}
+use Rattle.sat_engine.specs.Look.{InRange, AreInRange, AreFalseBut}
 use Rattle.sat_engine.proofs.Trails.{IsTrail-length}
 use Rattle.sat_engine.proofs.Growing.{Grows-imply}
 use Rattle.sat_search.specs.declared.parts.Parts.{Parts}
@@ -23,7 +19,7 @@ use Rattle.sat_search.specs.Choice.{IsChoiceAt}
 use Rattle.sat_search.specs.Once.{IsFlip, IsSame, OnceSays}
 use Rattle.sat_search.specs.declared.once.Once.{Once}
 use Rattle.sat_search.specs.declared.once.Once.TheVariants.{Refuted, Learnt, Flipped, Again}
-use Rattle.sat_search.proofs.States.{IsState-cut, IsState-grow, IsState-more, rank-cut}
+use Rattle.sat_search.proofs.States.{IsState-cut, IsState-grow, rank-cut}
 
 -- the state after a jump and an implied literal
 pub jump_state : (F : List (List ℕ)) (A : List ℕ) (G : List (List ℕ)) (old new after : List Step) (truth : List Bool) (place : List ℕ) (start : ℕ) (c : List ℕ) (l n : ℕ) → IsState F A old start → IsJump G old new truth start c → IsTrail new truth place → n < length F → Contains (clause_at F n) l → AreFalseBut (clause_at F n) truth l

@@ -1,24 +1,21 @@
-use Rattle.std.proofs.Common.{ℕ, zero, suc, ◌≡◌, ◌≢◌, ◌+◌, ◌-◌, ◌*◌, ◌/◌, ◌%◌, ◌<◌, ◌≤◌, ◌⊎◌, ◌++◌, inl, inr, List, [], ◌∷◌, map, length, get_or, take, drop, set, Bool, true, false, None, Some, Option, MatchOption, refl, sym, ap, subst, ◌∙◌, arith}
+use Rattle.std.proofs.Common.{ℕ, ◌≡◌, ◌≢◌, ◌+◌, ◌-◌, ◌/◌, ◌<◌, ◌≤◌, ◌++◌, inl, inr, List, [], ◌∷◌, length, get_or, take, set, Bool, false, None, Some, Option, MatchOption, sym, ap, subst, ◌∙◌, arith}
 use Rattle.std.specs.List.{Contains}
-use Rattle.std.proofs.lemmas.Bool.{cases_eq, cases_lt, cases_Bool, false≢true}
-use Rattle.std.proofs.lemmas.List.{length-append, length-take-le, length-take, length_push, length-map, length-set, get_or-take, get_or_append_left, get_or_push, get_or_default, get_or-set_same, get_or-set_other, take_at, take-take}
+use Rattle.std.proofs.lemmas.Bool.{cases_eq, cases_lt, false≢true}
+use Rattle.std.proofs.lemmas.List.{length-append, length-take-le, length_push, get_or-take, get_or_append_left, get_or_push, get_or_default, get_or-set_same, get_or-set_other, take-take}
 use Rattle.std.proofs.lemmas.List.Elements.{Contains-push_cases, Contains-get_or, Contains-append_left, Contains-push}
 use Rattle.kv_clause.specs.Literals.{complement_of}
-use Rattle.kv_clause.specs.Propagation.{clause_at, Derived, given, unit, Conflict, HasComplements, Follows}
+use Rattle.kv_clause.specs.Propagation.{clause_at, Conflict}
 use Rattle.kv_clause.proofs.Truths.{complement_twice, complement_variable}
-use Rattle.sat_search.proofs.Derivations.{Derived-wider, Derived-push}
 use Rattle.sat_engine.specs.declared.trail.Reason.{Reason}
-use Rattle.sat_engine.specs.declared.trail.Reason.TheVariants.{Free, Assumed, Clause}
+use Rattle.sat_engine.specs.declared.trail.Reason.TheVariants.{Free, Assumed}
 use Rattle.sat_engine.specs.declared.trail.Step.{Step}
-use Rattle.sat_engine.specs.Trail.{none_step, IsSet, IsTrail, lit_at, reason_at, Before, IsReason, AreReasons}
-use Rattle.sat_engine.specs.Look.{InRange, AreInRange, AreFalse, AreFalseBut}
-use Rattle.sat_engine.specs.Grow.{IsImplied, Grows}
+use Rattle.sat_engine.specs.Trail.{none_step, IsSet, IsTrail, lit_at, reason_at}
+use Rattle.sat_engine.specs.Look.{InRange, AreInRange, AreFalse}
 use Rattle.sat_engine.proofs.Trails.{each_Contains, lit_at-take}
 use Rattle.sat_search.specs.declared.repair.Spot.{Spot}
 use Rattle.sat_search.specs.Analysis.{IsSite, IsLearnt}
 use Rattle.sat_search.specs.New.{IsIndexed}
-use Rattle.kv_clause.specs.Propagation.{Includes}
-use Rattle.sat_search.specs.State.{is_choice, word, IsState, IsNew}
+use Rattle.sat_search.specs.State.{is_choice, IsState}
 use Rattle.sat_search.specs.Choice.{IsLastPlace, IsChoiceAt, NoChoice}
 use Rattle.sat_search.specs.Repair.{IsBack, IsSpot, IsJump}
 use Rattle.sat_search.proofs.States.{Conflict-from, no_free, false_in, IsState-cut, IsSite-from}

@@ -1,21 +1,21 @@
-use Rattle.std.proofs.Common.{ℕ, zero, suc, ◌≡◌, ◌≢◌, ◌+◌, ◌-◌, ◌*◌, ◌/◌, ◌%◌, ◌<◌, ◌≤◌, ◌⊎◌, ◌++◌, inl, inr, List, [], ◌∷◌, map, length, get_or, take, drop, set, Bool, true, false, None, Some, Option, refl, sym, ap, subst, ◌∙◌, arith}
+use Rattle.std.proofs.Common.{ℕ, zero, suc, ◌≡◌, ◌≢◌, ◌+◌, ◌/◌, ◌<◌, ◌≤◌, ◌++◌, inl, inr, List, [], ◌∷◌, length, get_or, take, drop, Bool, true, false, refl, sym, ap, subst, ◌∙◌, arith}
 use Rattle.std.specs.List.{Contains}
-use Rattle.std.proofs.lemmas.Bool.{cases_eq, cases_lt, cases_Bool, false≢true}
-use Rattle.std.proofs.lemmas.List.{length-append, length-take-le, length-take, length_push, length-map, get_or-take, get_or_append_left, get_or_push, map-append, take-map, take-append-drop, drop_more}
+use Rattle.std.proofs.lemmas.Bool.{cases_lt, false≢true}
+use Rattle.std.proofs.lemmas.List.{length-append, length-take-le, length_push, length-map, get_or-take, get_or_append_left, get_or_push, map-append, take-append-drop, drop_more}
 use Rattle.std.proofs.lemmas.List.Elements.{Contains-push_cases, Contains-get_or}
 use Rattle.kv_clause.specs.Literals.{complement_of}
-use Rattle.kv_clause.specs.Propagation.{clause_at, Derived, given, unit, Conflict, HasComplements, Follows}
+use Rattle.kv_clause.specs.Propagation.{clause_at, Derived, given, unit, Conflict}
 use Rattle.sat_search.specs.Rank.{rank}
 use Rattle.kv_clause.proofs.Truths.{complement_twice, complement_variable}
 use Rattle.sat_search.proofs.Derivations.{Derived-wider, Derived-push}
-use Rattle.sat_search.proofs.Ranks.{rank-flip, rank-more}
+use Rattle.sat_search.proofs.Ranks.{rank-flip}
 use Rattle.sat_engine.specs.declared.trail.Reason.{Reason}
 use Rattle.sat_engine.specs.declared.trail.Reason.TheVariants.{Free, Assumed, Clause}
 use Rattle.sat_engine.specs.declared.trail.Step.{Step}
-use Rattle.sat_engine.specs.Trail.{none_step, IsSet, IsTrail, lit_at, reason_at, Before, IsReason, AreReasons}
-use Rattle.sat_engine.specs.Look.{InRange, AreInRange, AreFalse, AreFalseBut}
+use Rattle.sat_engine.specs.Trail.{none_step, IsSet, IsTrail, lit_at, reason_at, Before, IsReason}
+use Rattle.sat_engine.specs.Look.{AreInRange, AreFalse}
 use Rattle.sat_engine.specs.Grow.{IsImplied, Grows}
-use Rattle.sat_engine.proofs.Trails.{lit_at-push, lit_at-last, lit_at-take}
+use Rattle.sat_engine.proofs.Trails.{lit_at-push, lit_at-take}
 use Rattle.sat_engine.proofs.Growing.{Before-same, IsReason-same, AreReasons-grown, same_to}
 use Rattle.sat_search.specs.Analysis.{IsSite, IsLearnt}
 use Rattle.kv_clause.specs.Propagation.{Includes}

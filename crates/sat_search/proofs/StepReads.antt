@@ -1,9 +1,7 @@
-use Rattle.std.proofs.Common.{ℕ, ◌≡◌, ◌+◌, ◌/◌, ◌<◌, Option, None, Some, refl, List, [], length, get_or, set, Bool, true, false, sym, ap, subst, ◌∙◌}
+use Rattle.std.proofs.Common.{ℕ, ◌≡◌, ◌/◌, ◌<◌, Option, None, Some, refl, List, length, get_or, set, Bool, false, ap, subst}
 use Rattle.std.proofs.lemmas.List.{get_or_read}
-use Rattle.sat_engine.specs.declared.trail.Reason.{Reason}
 use Rattle.sat_engine.specs.declared.trail.Step.{Step}
 use Rattle.sat_engine.specs.Trail.{none_step, lit_at, reason_at}
-use Rattle.sat_engine.specs.Grow.{IsImplied}
 use Rattle.sat_search.specs.Mark.{MarkedAll, IsNext}
 use Rattle.sat_search.specs.Analysis.{IsWitness}
 

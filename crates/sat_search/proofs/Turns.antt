@@ -1,22 +1,20 @@
-use Rattle.std.proofs.Common.{ℕ, zero, suc, ◌≡◌, ◌≢◌, ◌+◌, ◌-◌, ◌*◌, ◌/◌, ◌%◌, ◌<◌, ◌≤◌, ◌⊎◌, ◌++◌, inl, inr, List, [], ◌∷◌, map, length, get_or, take, drop, set, Bool, true, false, refl, sym, ap, subst, ◌∙◌, arith}
+use Rattle.std.proofs.Common.{ℕ, ◌≡◌, ◌≢◌, ◌<◌, ◌≤◌, ◌⊎◌, ◌++◌, inl, inr, List, [], ◌∷◌, length, get_or, drop, Bool, true, false, sym, ap, subst, ◌∙◌, arith}
 use Rattle.std.specs.List.{Contains}
-use Rattle.std.proofs.lemmas.Bool.{cases_eq, cases_lt}
-use Rattle.std.proofs.lemmas.List.{get_or_read, get_or_past, append-nil, length-append, length_push, length-map, map-append, take-append-drop, get_or_default}
+use Rattle.std.proofs.lemmas.List.{get_or_read, append-nil, length-map, map-append, take-append-drop, get_or_default}
 use Rattle.kv_clause.specs.Literals.{complement_of}
-use Rattle.kv_clause.specs.Propagation.{clause_at, Derived, given, Conflict, HasComplements, Refuted}
+use Rattle.kv_clause.specs.Propagation.{Derived, given, Refuted}
 use Rattle.sat_search.specs.Rank.{rank}
 use Rattle.kv_clause.proofs.Propagation.{Refuted-both}
 use Rattle.sat_search.proofs.Ranks.{rank-more}
-use Rattle.sat_engine.specs.declared.trail.Reason.{Reason}
-use Rattle.sat_engine.specs.declared.trail.Reason.TheVariants.{Free, Assumed, Clause}
+use Rattle.sat_engine.specs.declared.trail.Reason.TheVariants.{Free}
 use Rattle.sat_engine.specs.declared.trail.Step.{Step}
-use Rattle.sat_engine.specs.Trail.{none_step, IsSet, IsTrail, lit_at, reason_at, Before}
-use Rattle.sat_engine.specs.Look.{InRange, AreInRange, AreFalse}
+use Rattle.sat_engine.specs.Trail.{IsSet, IsTrail, reason_at}
+use Rattle.sat_engine.specs.Look.{InRange, AreFalse}
 use Rattle.sat_engine.specs.Grow.{Grows}
 use Rattle.sat_engine.proofs.Trails.{IsTrail-length}
 use Rattle.sat_engine.proofs.Growing.{Before-set}
 use Rattle.sat_search.specs.declared.parts.Parts.{Parts}
-use Rattle.sat_search.specs.State.{is_choice, word, IsState, IsReady, IsNew}
+use Rattle.sat_search.specs.State.{is_choice, word, IsState, IsNew}
 use Rattle.sat_search.specs.declared.turn.Turn.{Turn}
 use Rattle.sat_search.specs.declared.turn.Turn.TheVariants.{Met, Refuted as Failed, Learnt, Moved}
 use Rattle.sat_search.specs.Turn.{TurnSays}

@@ -1,9 +1,9 @@
-use Rattle.std.specs.Prelude.{ℕ, ◌≡◌, ◌≢◌, ◌+◌, ◌*◌, ◌/◌, ◌<◌, ◌≤◌, List, [], ◌∷◌, ◌++◌, length, slice_index, Bool, Option, None, Some}
+use Rattle.std.specs.Prelude.{ℕ, ◌≡◌, ◌*◌, ◌/◌, ◌<◌, ◌≤◌, List, [], ◌∷◌, ◌++◌, length, slice_index, Bool, Option, None, Some}
 use Rattle.std.specs.List.{Contains}
 use Rattle.kv_clause.specs.Literals.{complement_of}
-use Rattle.kv_clause.specs.Propagation.{clause_at, Derived, Conflict, Follows}
+use Rattle.kv_clause.specs.Propagation.{Derived, Conflict, Follows}
 use Rattle.sat_engine.specs.declared.trail.Step.{Step}
-use Rattle.sat_engine.specs.Trail.{IsSet, IsTrail, lit_at, reason_at}
+use Rattle.sat_engine.specs.Trail.{IsSet, IsTrail, reason_at}
 use Rattle.sat_engine.specs.Look.{AreInRange}
 use Rattle.sat_engine.specs.Grow.{IsImplied}
 use Rattle.sat_search.specs.Mark.{IsMarkedAt, IsNext}

@@ -1,4 +1,4 @@
-use Rattle.std.specs.Prelude.{ℕ, ◌≡◌, ◌/◌, ◌<◌, ◌≤◌, List, length, slice_index, Bool, true, false, Option, None, Some}
+use Rattle.std.specs.Prelude.{ℕ, ◌≡◌, ◌/◌, ◌<◌, ◌≤◌, List, slice_index, true, false, Option, None, Some}
 use Rattle.sat_engine.specs.declared.trail.Step.{Step}
 use Rattle.sat_engine.specs.Trail.{reason_at}
 use Rattle.sat_search.specs.State.{is_choice}

@@ -1,4 +1,4 @@
-use Rattle.std.specs.Prelude.{ℕ, ◌≡◌, ◌<◌, ◌++◌, ◌∷◌, List, [], length, take, Bool, false}
+use Rattle.std.specs.Prelude.{ℕ, ◌≡◌, ◌<◌, ◌++◌, ◌∷◌, List, [], length, take, false}
 use Rattle.kv_clause.specs.Propagation.{clause_at, Conflict}
 use Rattle.sat_engine.specs.Look.{AreFalse}
 use Rattle.sat_engine.specs.declared.trail.Step.{Step}

@@ -1,8 +1,6 @@
-use Rattle.std.specs.Prelude.{ℕ, ◌≡◌, ◌≢◌, ◌+◌, ◌*◌, ◌<◌, ◌≤◌, ◌++◌, ◌∷◌, ◌⊎◌, List, [], map, length, Bool, true, false, Option, None, Some}
+use Rattle.std.specs.Prelude.{ℕ, ◌≡◌, ◌*◌, ◌<◌, ◌≤◌, List, [], map, length, Bool, true, false}
 use Rattle.std.specs.List.{Contains}
-use Rattle.kv_clause.specs.Literals.{complement_of}
-use Rattle.kv_clause.specs.Propagation.{clause_at, Derived, Conflict, HasComplements, Follows}
-use Rattle.sat_search.specs.Rank.{rank}
+use Rattle.kv_clause.specs.Propagation.{clause_at, Derived, HasComplements, Follows}
 use Rattle.sat_engine.specs.declared.trail.Reason.{Reason}
 use Rattle.sat_engine.specs.declared.trail.Reason.TheVariants.{Free, Assumed, Clause}
 use Rattle.sat_engine.specs.declared.trail.Step.{Step}

@@ -1,4 +1,4 @@
-use Rattle.std.specs.Prelude.{ℕ, ◌≡◌, ◌+◌, ◌<◌, ◌++◌, ◌∷◌, List, [], length, Bool}
+use Rattle.std.specs.Prelude.{ℕ, ◌≡◌, ◌<◌, ◌++◌, ◌∷◌, List, [], length, Bool}
 use Rattle.std.specs.List.{Contains}
 use Rattle.kv_clause.specs.Propagation.{clause_at, Refuted}
 use Rattle.sat_search.specs.Rank.{rank}

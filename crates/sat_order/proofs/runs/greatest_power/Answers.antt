@@ -1,4 +1,4 @@
-use Rattle.std.proofs.Common.{ℕ, suc, ◌≡◌, ◌*◌, ◌^◌, refl, arith}
+use Rattle.std.proofs.Common.{suc, refl, arith}
 use Rattle.std.proofs.Math.Nat.{pow-suc}
 use Rattle.sat_order.proofs.runs.greatest_power.Goals as goal
 

@@ -1,11 +1,11 @@
-use Rattle.std.proofs.Common.{ℕ, ◌≡◌, ◌≢◌, ◌+◌, ◌*◌, ◌<◌, ◌/◌, ◌++◌, ◌∷◌, [], List, length, arith, subst, sym, ap, ◌∙◌, Bool}
+use Rattle.std.proofs.Common.{ℕ, ◌≡◌, ◌*◌, ◌++◌, ◌∷◌, [], List, length, arith, subst, sym, ap, ◌∙◌}
 use Rattle.kv_clause.specs.Literals.{complement_of}
 use Rattle.kv_clause.specs.Propagation.{clause_at}
 use Rattle.std.specs.List.{Contains}
 use Rattle.sat_engine.specs.declared.trail.Step.{Step}
-use Rattle.sat_engine.specs.Trail.{lit_at, reason_at, IsSet}
-use Rattle.sat_search.specs.Mark.{IsMarkedAt, MarkedAll}
-use Rattle.sat_search.specs.Analysis.{IsMarked, IsLearnt}
+use Rattle.sat_engine.specs.Trail.{lit_at}
+use Rattle.sat_search.specs.Mark.{MarkedAll}
+use Rattle.sat_search.specs.Analysis.{IsLearnt}
 use Rattle.sat_engine.specs.Look.{InRange}
 use Rattle.sat_search.proofs.Repairs.{learnt_range}
 use Rattle.sat_search.proofs.StepReads.{lit_read, MarkedAll-in, IsWitness-next, IsNext-none}

@@ -1,14 +1,14 @@
-use Rattle.std.proofs.Common.{ℕ, ◌≡◌, ◌≢◌, ◌+◌, ◌<◌, ◌/◌, List, length, arith, subst, sym, ◌∙◌, set, false, Bool, refl}
+use Rattle.std.proofs.Common.{ℕ, ◌≡◌, ◌<◌, ◌/◌, List, length, arith, subst, sym, ◌∙◌, set, false, Bool, refl}
 use Rattle.kv_clause.specs.Propagation.{clause_at}
 use Rattle.sat_engine.specs.declared.trail.Reason.{Reason}
 use Rattle.sat_engine.specs.declared.trail.Reason.TheVariants.{Free, Assumed, Clause}
 use Rattle.sat_engine.specs.declared.trail.Step.{Step}
 use Rattle.sat_engine.specs.Trail.{lit_at, reason_at}
 use Rattle.sat_engine.specs.Grow.{IsImplied}
-use Rattle.sat_search.specs.Mark.{IsMarkedAt, MarkedAll}
+use Rattle.sat_search.specs.Mark.{IsMarkedAt}
 use Rattle.std.proofs.lemmas.List.{length-set}
 use Rattle.sat_engine.specs.Look.{InRange}
-use Rattle.sat_search.specs.Analysis.{IsMarked, IsSite}
+use Rattle.sat_search.specs.Analysis.{IsSite}
 use Rattle.sat_search.proofs.StepReads.{lit_read, reason_read, MarkedAll-at}
 use Rattle.sat_search.proofs.Analyses.{IsMarked-resolve, IsMarked-lower, IsMarkedAt-other}
 use Rattle.sat_search.proofs.analysis.resolve.Goals as goal

@@ -1,8 +1,6 @@
-use Rattle.std.proofs.Common.{ℕ, ◌≡◌, ◌+◌, ◌<◌, [], List, get_or, length, subst, sym, ap, arith, below_more, ◌∙◌}
+use Rattle.std.proofs.Common.{ℕ, ◌≡◌, [], List, get_or, subst, sym, arith, below_more, ◌∙◌}
 use Rattle.std.specs.List.{Contains}
 use Rattle.std.proofs.lemmas.List.{get_or_default}
-use Rattle.kv_clause.specs.Propagation.{clause_at}
-use Rattle.sat_engine.specs.Trail.{IsSet}
 use Rattle.sat_search.proofs.newness.seek.Goals as goal
 
 pub returns : goal.returns

@@ -1,21 +1,17 @@
-use Rattle.std.proofs.Common.{ℕ, ◌≡◌, ◌≢◌, ◌-◌, ◌+◌, ◌<◌, ◌++◌, ◌∷◌, [], List, Bool, length, get_or, take, subst, sym, ap, refl, ◌∙◌, arith, rules, vec_len}
+use Rattle.std.proofs.Common.{ℕ, ◌≡◌, ◌≢◌, ◌-◌, ◌++◌, ◌∷◌, [], List, Bool, length, get_or, subst, sym, ap, refl, ◌∙◌, arith}
 use Rattle.std.specs.List.{Contains}
 use Rattle.std.specs.Vec.{with_items}
-use Rattle.std.proofs.lemmas.Grind.{common_steps}
 use Rattle.std.proofs.lemmas.List.{get_or_read, with_items_is, length-append}
 use Rattle.std.proofs.lemmas.List.Elements.{Contains-get_or}
 use Rattle.kv_clause.specs.Literals.{complement_of}
 use Rattle.kv_clause.specs.Propagation.{clause_at}
-use Rattle.sat_engine.specs.declared.trail.Reason.TheVariants.{Clause}
 use Rattle.sat_engine.specs.declared.trail.Step.{Step}
-use Rattle.sat_engine.specs.Trail.{IsSet, IsTrail}
+use Rattle.sat_engine.specs.Trail.{IsSet}
 use Rattle.sat_engine.specs.Look.{AreInRange, InRange, AreFalse, AreFalseBut}
-use Rattle.sat_search.specs.New.{IsIndexed}
 use Rattle.kv_clause.specs.Propagation.{Includes}
-use Rattle.sat_search.specs.State.{IsState, IsNew}
-use Rattle.sat_search.specs.Repair.{IsJump}
+use Rattle.sat_search.specs.State.{IsState}
 use Rattle.sat_search.proofs.States.{IsState-more, IsState-cut}
-use Rattle.sat_search.proofs.Flips.{jump_state, jump_flip, jump_length, IsReady-make, AreInRange-push, clause_at-last, others_in}
+use Rattle.sat_search.proofs.Flips.{jump_state, jump_flip, jump_length, IsReady-make, AreInRange-push, clause_at-last}
 use Rattle.sat_search.proofs.once.repair_once.Goals as goal
 
 pub returns-in-Unit : goal.returns-in-Unit

@@ -1,12 +1,11 @@
-use Rattle.std.proofs.Common.{ℕ, ◌≡◌, ◌<◌, ◌≤◌, ◌+◌, ◌/◌, List, Bool, length, get_or, take, subst, sym, ap, ◌∙◌, arith}
+use Rattle.std.proofs.Common.{ℕ, ◌≡◌, ◌<◌, ◌+◌, ◌/◌, List, length, get_or, take, subst, sym, ap, ◌∙◌, arith}
 use Rattle.std.proofs.lemmas.List.{length-take-le}
 use Rattle.kv_clause.specs.Literals.{complement_of}
-use Rattle.kv_clause.specs.Propagation.{clause_at}
 use Rattle.kv_clause.proofs.Truths.{complement_variable}
 use Rattle.sat_engine.specs.declared.trail.Step.{Step}
 use Rattle.sat_engine.specs.Look.{AreInRange, InRange}
 use Rattle.sat_engine.specs.Trail.{IsTrail}
-use Rattle.sat_search.specs.Repair.{IsJump, IsBack}
+use Rattle.sat_search.specs.Repair.{IsBack}
 use Rattle.sat_search.proofs.Repairs.{site_at, set_kept, learnt_range, learnt_low, IsJump-from}
 use Rattle.sat_search.proofs.repair.learn.Goals as goal
 

@@ -1,7 +1,7 @@
-use Rattle.std.proofs.Common.{ℕ, ◌≡◌, ◌-◌, ◌<◌, List, length, get_or, set, subst, sym, ap, ◌∙◌, arith, rules, ◌++◌, ◌∷◌, []}
+use Rattle.std.proofs.Common.{ℕ, ◌≡◌, ◌<◌, List, length, get_or, set, subst, sym, ap, ◌∙◌, arith, ◌++◌, ◌∷◌, []}
 use Rattle.std.specs.List.{Contains}
 use Rattle.std.proofs.lemmas.Grind.{common_steps}
-use Rattle.std.proofs.lemmas.List.{length-set, get_or_default, length-append}
+use Rattle.std.proofs.lemmas.List.{length-set, length-append}
 use Rattle.std.proofs.lemmas.List.Elements.{Contains-get_or}
 use Rattle.sat_search.specs.New.{IsIndexed}
 use Rattle.sat_search.proofs.Repairs.{IsIndexed-push}

@@ -1,11 +1,11 @@
-use Rattle.std.proofs.Common.{ℕ, ◌≡◌, ◌≢◌, ◌+◌, ◌++◌, ◌∷◌, [], ◌<◌, ◌⊎◌, List, Bool, true, false, length, get_or, subst, sym, refl, ap, ◌∙◌, arith, rules}
+use Rattle.std.proofs.Common.{ℕ, ◌≡◌, ◌++◌, ◌∷◌, [], ◌<◌, ◌⊎◌, List, Bool, length, subst, sym, refl, arith}
 use Rattle.std.specs.List.{Contains}
-use Rattle.std.proofs.lemmas.List.{get_or_read, get_or_default}
+use Rattle.std.proofs.lemmas.List.{get_or_default}
 use Rattle.kv_clause.specs.Literals.{complement_of}
 use Rattle.kv_clause.specs.Propagation.{clause_at}
 use Rattle.sat_engine.specs.declared.trail.Reason.TheVariants.{Free, Assumed}
 use Rattle.sat_engine.specs.declared.trail.Step.{Step}
-use Rattle.sat_engine.specs.Trail.{IsSet, lit_at, Before}
+use Rattle.sat_engine.specs.Trail.{IsSet, lit_at}
 use Rattle.sat_engine.proofs.Trails.{lit_at-last}
 use Rattle.sat_engine.proofs.Growing.{Before-set}
 use Rattle.sat_search.specs.State.{IsState}

@@ -1,4 +1,4 @@
-use Rattle.std.proofs.Common.{ℕ, List, length, refl, sym, subst, arith}
+use Rattle.std.proofs.Common.{ℕ, List, refl, sym, subst, arith}
 use Rattle.sat_engine.specs.declared.trail.Step.{Step}
 use Rattle.sat_search.specs.State.{IsState}
 use Rattle.sat_search.proofs.States.{IsState-advance, IsState-cut}

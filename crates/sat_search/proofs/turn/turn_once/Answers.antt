@@ -1,4 +1,4 @@
-use Rattle.std.proofs.Common.{ℕ, ◌≡◌, ◌≤◌, List, length, refl, arith, sym}
+use Rattle.std.proofs.Common.{ℕ, ◌≤◌, List, length, refl}
 use Rattle.std.proofs.lemmas.Result.{IfOk-weaker}
 use Rattle.sat_search.specs.Rank.{rank}
 use Rattle.sat_search.specs.declared.parts.Parts.{Parts}

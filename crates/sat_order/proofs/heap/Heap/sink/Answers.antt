@@ -1,4 +1,4 @@
-use Rattle.std.proofs.Common.{◌≡◌, length, ◌∙◌, arith}
+use Rattle.std.proofs.Common.{◌∙◌, arith}
 use Rattle.sat_order.proofs.Arranged.{members-exchange}
 use Rattle.sat_order.proofs.heap.Heap.sink.Goals as goal
 

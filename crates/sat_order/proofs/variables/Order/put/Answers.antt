@@ -1,6 +1,5 @@
-use Rattle.std.proofs.Common.{ℕ, ◌≡◌, ◌+◌, ◌<◌, List, Bool, true, length, get_or, set, ap, sym, ◌∙◌, arith}
+use Rattle.std.proofs.Common.{ℕ, ◌≡◌, ◌<◌, length, get_or, ap, ◌∙◌, arith}
 use Rattle.std.proofs.lemmas.List.{get_or_read}
-use Rattle.sat_order.specs.Members.{members}
 use Rattle.sat_order.proofs.Arranged.{members-length, members-again, members-put}
 use Rattle.sat_order.proofs.variables.Order.put.Goals as goal
 

@@ -1,7 +1,7 @@
 use Rattle.std.proofs.Common.{ℕ, ◌≡◌, ◌+◌, ◌-◌, ◌<◌, ◌≤◌, List, Bool, false, length, get_or, set, refl, ap, sym, subst, ◌∙◌, arith}
 use Rattle.std.proofs.lemmas.List.{get_or_read}
 use Rattle.sat_order.specs.Members.{members, IsIn, IsEmpty}
-use Rattle.sat_order.proofs.Arranged.{members-length, members-none, members-take, taken_in}
+use Rattle.sat_order.proofs.Arranged.{members-none, members-take, taken_in}
 use Rattle.sat_order.proofs.variables.Order.take.Goals as goal
 
 pub returns-then-self-eq0 : goal.returns-then-self-eq0
