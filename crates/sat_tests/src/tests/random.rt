@@ -1,3 +1,5 @@
+ghost use Rattle.std.specs.Prelude.{◌<◌};
+
 use kv_base::{NoMemory, Sequence};
 use kv_clause::{Clause, Cnf, Lit};
 use sat_core::NeverPoll;
