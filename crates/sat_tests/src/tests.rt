@@ -1,0 +1,5 @@
+mod asked;
+mod clauses;
+mod kept;
+mod random;
+mod solved;

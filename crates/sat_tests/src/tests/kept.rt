@@ -1,0 +1,57 @@
+use crate::tests::clauses::{lits, pigeons};
+use kv_base::NoMemory;
+use kv_clause::Clauses;
+use proof_checker::Checker;
+use sat_core::NeverPoll;
+use sat_query::{Kept, KeptAnswer};
+use std::alloc::Global;
+use std::process::Abort;
+use std::test::Fail;
+
+fn add_all(kept: &mut Kept, clauses: &Clauses) -> Result<(), NoMemory> {
+    for clause in clauses.as_slice() {
+        kept.add(clause)?;
+    }
+    Ok(())
+}
+
+fn asked(
+    alloc: Global,
+    kept: &mut Kept,
+    numbers: &[i8],
+    budget: u32,
+) -> Result<KeptAnswer, NoMemory> {
+    kept.ask(&lits(alloc, numbers)?, budget, &mut NeverPoll::new())
+}
+
+#[test]
+fn a_spent_budget_is_no_end(rt: HostRuntime) -> Result<(), Fail> {
+    let mut kept = Kept::new(rt.alloc());
+    add_all(&mut kept, &pigeons(rt.alloc())?.clauses)?;
+    let first = asked(rt.alloc(), &mut kept, &[], 1)?;
+    assert!(rt; matches!(&first, KeptAnswer::Spent(log) if log.len() == 1));
+    let second = asked(rt.alloc(), &mut kept, &[], 0)?;
+    assert!(rt; matches!(&second, KeptAnswer::Unsat));
+    Ok(())
+}
+
+#[test]
+fn questions_are_apart(rt: HostRuntime) -> Result<(), Fail> {
+    let mut kept = Kept::new(rt.alloc());
+    kept.add(&lits(rt.alloc(), &[-1, 2])?)?;
+    let both = asked(rt.alloc(), &mut kept, &[1, -2], 0)?;
+    assert!(rt; matches!(&both, KeptAnswer::Unsat));
+    let one = asked(rt.alloc(), &mut kept, &[1], 0)?;
+    assert!(rt; matches!(&one, KeptAnswer::Sat(found) if found.get(1) == Some(&true)));
+    Ok(())
+}
+
+#[test]
+fn a_checker_learns(rt: HostRuntime) -> Result<(), Fail> {
+    let mut checker = Checker::new(rt.alloc());
+    checker.add(&lits(rt.alloc(), &[-1, 2])?)?;
+    checker.add(&lits(rt.alloc(), &[1])?)?;
+    assert!(rt; checker.learn(&lits(rt.alloc(), &[2])?)?);
+    assert!(rt; checker.refutes(&lits(rt.alloc(), &[-2])?)?);
+    Ok(())
+}
