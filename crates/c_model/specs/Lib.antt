@@ -1,5 +1,3 @@
-pub mod Tokens
-pub mod Early
 pub mod Machine
 pub mod Words
 pub mod Pieces

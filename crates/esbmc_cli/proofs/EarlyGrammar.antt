@@ -11,8 +11,8 @@ use Rattle.std.proofs.lemmas.Str.Parse.{IsNumeralModel, numerals_by_value, tells
 use Rattle.c_model.specs.declared.program.Addend.{Addend}
 use Rattle.c_model.specs.declared.program.BlockItem.{BlockItem}
 use Rattle.c_model.specs.declared.program.BlockItem.TheVariants.{Declare, Assign, Assert}
-use Rattle.c_model.specs.Tokens.{Token}
-use Rattle.c_model.specs.Early.{sign_text, operand_text, addend_texts, item_texts, line_of, texts, IsItem, AreItems}
+use Rattle.esbmc_cli.specs.Tokens.{Token}
+use Rattle.esbmc_cli.specs.Early.{sign_text, operand_text, addend_texts, item_texts, line_of, texts, IsItem, AreItems}
 use Rattle.esbmc_cli.specs.declared.early.tokens.Lexeme.{Lexeme}
 use Rattle.esbmc_cli.specs.EarlyTokens.{token_of, seen}
 use Rattle.esbmc_cli.specs.EarlyGrammar.{Reads, ReadsItem, ReadsItems, IsPlain}

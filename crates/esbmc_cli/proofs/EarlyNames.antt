@@ -6,7 +6,7 @@ use Rattle.std.proofs.lemmas.List.Elements.{Contains-append_cases, Contains-appe
 use Rattle.std.proofs.lemmas.List.{reverse-append, reverse-reverse}
 use Rattle.c_model.specs.declared.program.BlockItem.{BlockItem}
 use Rattle.c_model.specs.declared.program.BlockItem.TheVariants.{Declare, Assign, Assert}
-use Rattle.c_model.specs.Early.{AreScoped}
+use Rattle.esbmc_cli.specs.Early.{AreScoped}
 use Rattle.esbmc_cli.specs.EarlyNames.{in_scope, scope_after, IsScoped}
 use Rattle.esbmc_cli.proofs.EarlyTokens.{in_table}
 

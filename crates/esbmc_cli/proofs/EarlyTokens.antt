@@ -9,7 +9,7 @@ use Rattle.std.proofs.lemmas.List.{get_or-take, get_or-drop, length-drop, take-a
 use Rattle.std.proofs.lemmas.List.Elements.{Decides-contains, All-contains, All-head, All-from_recursion, Contains-append_right}
 use Rattle.std.proofs.lemmas.List.Folds.{length-prefix_len}
 use Rattle.std.proofs.lemmas.List.Sums.{count_by-le-length, prefix_len_passes, prefix_len_stops}
-use Rattle.c_model.specs.Tokens.{is_word_byte, is_blank, newlines, punctuators, IsWord, IsToken, IsLongest, Token, AreBlanks, Divides}
+use Rattle.esbmc_cli.specs.Tokens.{is_word_byte, is_blank, newlines, punctuators, IsWord, IsToken, IsLongest, Token, AreBlanks, Divides}
 use Rattle.esbmc_cli.specs.declared.early.tokens.Lexeme.{Lexeme}
 use Rattle.esbmc_cli.specs.EarlyTokens.{token_of, seen}
 

@@ -5,7 +5,7 @@ use Rattle.kv_port.specs.Folder.{Folder, Lacks}
 use Rattle.c_model.specs.declared.checks.CheckKind.{CheckKind}
 use Rattle.c_model.specs.declared.program.Program.{Program}
 use Rattle.c_model.specs.Machine.{Breaks, Safe}
-use Rattle.c_model.specs.Early.{Early}
+use Rattle.esbmc_cli.specs.Early.{Early}
 use Rattle.esbmc_cli.specs.declared.decide.Decided.{Decided}
 use Rattle.esbmc_cli.specs.declared.decide.Decided.TheVariants.{Successful, Failed, NotYet, Missing, ReadFault, NoMemory}
 use Rattle.esbmc_cli.specs.Source.{Holds, HasFile}

@@ -1,7 +1,7 @@
 -- What the reader of straight programs has taken from the front of its tokens.
 use Rattle.std.specs.Prelude.{◌≡◌, ◌≢◌, ℕ, ◌<◌, length, slice_index, List, [], ◌++◌}
 use Rattle.c_model.specs.declared.program.BlockItem.{BlockItem}
-use Rattle.c_model.specs.Early.{IsItem, AreItems, texts, opening, closing}
+use Rattle.esbmc_cli.specs.Early.{IsItem, AreItems, texts, opening, closing}
 use Rattle.esbmc_cli.specs.declared.early.tokens.Lexeme.{Lexeme}
 use Rattle.esbmc_cli.specs.EarlyTokens.{seen}
 

@@ -2,7 +2,7 @@
 use Rattle.std.specs.Prelude.{ℕ, List, ◌∷◌, map, reverse, Contains}
 use Rattle.c_model.specs.declared.program.BlockItem.{BlockItem}
 use Rattle.c_model.specs.declared.program.BlockItem.TheVariants.{Declare, Assign, Assert}
-use Rattle.c_model.specs.Early.{IsName, AreOperands}
+use Rattle.esbmc_cli.specs.Early.{IsName, AreOperands}
 use denote.Ref.{Bor}
 
 -- the names in scope, the last declared first

@@ -1,6 +1,6 @@
 -- The tokens that the reader of straight programs keeps, as C's tokens.
 use Rattle.std.specs.Prelude.{List, map}
-use Rattle.c_model.specs.Tokens.{Token}
+use Rattle.esbmc_cli.specs.Tokens.{Token}
 use Rattle.esbmc_cli.specs.declared.early.tokens.Lexeme.{Lexeme}
 
 abbrev pub token_of : Lexeme → Token

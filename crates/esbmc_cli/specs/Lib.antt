@@ -1,3 +1,5 @@
+pub mod Tokens
+pub mod Early
 pub mod Texts
 pub mod Written
 pub mod Source

@@ -1,7 +1,7 @@
 //! The reader of straight programs: tokens, then the grammar, then the names.
 
 ghost use Rattle.std.specs.Prelude.{◌≤◌, length, IfOk};
-ghost use Rattle.c_model.specs.Early.{Early};
+ghost use Rattle.esbmc_cli.specs.Early.{Early};
 
 mod names;
 mod syntax;

@@ -1,7 +1,7 @@
 //! The names of a straight program: what may be declared, and what is in scope (C11 6.2.1).
 
 ghost use Rattle.std.specs.Prelude.{◌≡◌, ◌↔◌, IsTrue, List, [], ◌∷◌, Contains, IfOk, OnOk};
-ghost use Rattle.c_model.specs.Early.{reserved, BeginsName, IsName, IsOperand, AreOperands, AreScoped};
+ghost use Rattle.esbmc_cli.specs.Early.{reserved, BeginsName, IsName, IsOperand, AreOperands, AreScoped};
 ghost use Rattle.esbmc_cli.specs.EarlyNames.{in_scope, scope_after, IsScoped};
 
 use super::tokens::is_word_byte;

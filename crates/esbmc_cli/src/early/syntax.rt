@@ -3,7 +3,7 @@
 ghost use Rattle.std.specs.Prelude.{◌≡◌, slice_get, ℕ, [], ◌∷◌, IfOk, IfSome, OnOk, MatchBool, MatchOption};
 ghost use Rattle.std.specs.Bool.{OnTrue};
 ghost use Rattle.std.specs.Fmt.{decimal};
-ghost use Rattle.c_model.specs.Early.{operand_text, sign_text, addend_texts, sum_texts, relation_text, item_texts, line_of, opening, closing};
+ghost use Rattle.esbmc_cli.specs.Early.{operand_text, sign_text, addend_texts, sum_texts, relation_text, item_texts, line_of, opening, closing};
 ghost use Rattle.esbmc_cli.specs.EarlyGrammar.{Reads, ReadsItem, ReadsItems, ReadsProgram, IsPlain};
 
 use super::EarlyFault;

@@ -2,7 +2,7 @@
 
 ghost use Rattle.std.specs.Prelude.{◌≡◌, ◌≤◌, ◌<◌, ◌↔◌, IsTrue, length, take, drop, Contains, IfOk, IfSome};
 ghost use Rattle.std.specs.List.{prefix_len};
-ghost use Rattle.c_model.specs.Tokens.{is_blank, is_word_byte, punctuators, newlines, IsLongest, Divides};
+ghost use Rattle.esbmc_cli.specs.Tokens.{is_blank, is_word_byte, punctuators, newlines, IsLongest, Divides};
 ghost use Rattle.esbmc_cli.specs.EarlyTokens.{seen};
 
 use super::EarlyFault;

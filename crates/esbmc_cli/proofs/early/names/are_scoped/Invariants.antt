@@ -1,5 +1,5 @@
 use Rattle.std.proofs.Common.{◌↔◌, [], drop}
-use Rattle.c_model.specs.Early.{AreScoped}
+use Rattle.esbmc_cli.specs.Early.{AreScoped}
 use Rattle.esbmc_cli.specs.EarlyNames.{in_scope}
 use Rattle.esbmc_cli.proofs.early.names.are_scoped.Given as goal
 

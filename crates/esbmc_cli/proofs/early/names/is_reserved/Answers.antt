@@ -1,4 +1,4 @@
-use Rattle.c_model.specs.Early.{reserved}
+use Rattle.esbmc_cli.specs.Early.{reserved}
 use Rattle.esbmc_cli.proofs.EarlyTokens.{in_table}
 use Rattle.esbmc_cli.proofs.early.names.is_reserved.Goals as goal
 

@@ -1,5 +1,5 @@
 use Rattle.esbmc_cli.proofs.EarlyTokens.{in_table}
-use Rattle.c_model.specs.Tokens.{punctuators}
+use Rattle.esbmc_cli.specs.Tokens.{punctuators}
 use Rattle.esbmc_cli.proofs.early.tokens.is_punctuator.Goals as goal
 
 pub returns : goal.returns

@@ -1,5 +1,5 @@
 use Rattle.std.proofs.Common.{arith}
-use Rattle.c_model.specs.Tokens.{is_word_byte}
+use Rattle.esbmc_cli.specs.Tokens.{is_word_byte}
 use Rattle.std.proofs.lemmas.List.Sums.{prefix_len-le-length}
 use Rattle.esbmc_cli.proofs.EarlyTokens.{word_at}
 use Rattle.esbmc_cli.proofs.early.tokens.token_len.Goals as goal

@@ -1,6 +1,6 @@
 use Rattle.std.proofs.Common.{arith, sym, ◌∙◌, ◌+◌, refl}
 use Rattle.std.proofs.lemmas.List.Sums.{prefix_len-le-length}
-use Rattle.c_model.specs.Tokens.{is_blank}
+use Rattle.esbmc_cli.specs.Tokens.{is_blank}
 use Rattle.esbmc_cli.proofs.EarlyTokens.{no_byte, nothing_left, ended, newlines-le, divided_more}
 use Rattle.esbmc_cli.proofs.early.tokens.tokenize.Goals as goal
 

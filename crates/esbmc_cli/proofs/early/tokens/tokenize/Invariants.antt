@@ -1,5 +1,5 @@
 use Rattle.std.proofs.Common.{◌≤◌, ◌+◌, List, ◌++◌, length}
-use Rattle.c_model.specs.Tokens.{Token, Divides}
+use Rattle.esbmc_cli.specs.Tokens.{Token, Divides}
 use Rattle.esbmc_cli.specs.EarlyTokens.{seen}
 use Rattle.esbmc_cli.proofs.early.tokens.tokenize.Given as goal
 

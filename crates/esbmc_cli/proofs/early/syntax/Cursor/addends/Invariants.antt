@@ -1,5 +1,5 @@
 use Rattle.std.proofs.Common.{length}
-use Rattle.c_model.specs.Early.{addend_texts}
+use Rattle.esbmc_cli.specs.Early.{addend_texts}
 use Rattle.esbmc_cli.specs.EarlyGrammar.{Reads}
 use Rattle.esbmc_cli.proofs.early.syntax.Cursor.addends.Given as goal
 

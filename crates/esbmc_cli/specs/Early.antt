@@ -12,7 +12,7 @@ use Rattle.c_model.specs.declared.program.Relation.TheVariants.{Equal, Unequal}
 use Rattle.c_model.specs.declared.program.BlockItem.{BlockItem}
 use Rattle.c_model.specs.declared.program.BlockItem.TheVariants.{Declare, Assign, Assert}
 use Rattle.c_model.specs.declared.program.Program.{Program}
-use Rattle.c_model.specs.Tokens.{is_nondigit, IsWord, Token, Divides}
+use Rattle.esbmc_cli.specs.Tokens.{is_nondigit, IsWord, Token, Divides}
 
 -- ---- the tokens of each part
 
