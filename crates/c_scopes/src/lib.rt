@@ -2,6 +2,7 @@
 #![tactic(auto)]
 
 mod cursor;
+mod meanings;
 mod scopes;
 #[cfg(test)]
 mod tests;
