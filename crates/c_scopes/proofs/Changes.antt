@@ -1,9 +1,9 @@
 -- What a map has at each name, after one name's declarations change.
-use Rattle.std.proofs.Common.{◌≡◌, ℕ, Bool, true, false, cond, List, [], ◌∷◌, ◌++◌, Some, None, Option, sym, ◌∙◌, ap, subst, refl, slice_get, ⊎_elim, MatchOption, reverse}
+use Rattle.std.proofs.Common.{◌≡◌, ℕ, Bool, true, false, List, [], ◌∷◌, ◌++◌, Some, None, Option, sym, ◌∙◌, ap, subst, refl, slice_get, ⊎_elim, MatchOption, arith, reverse}
 use Rattle.std.proofs.lemmas.Bool.{cases_Bool, cond-true, cond-false}
 use Rattle.std.proofs.lemmas.List.{reverse-append}
 use Rattle.std.specs.Cmp.Lexicographic.{bytes_decides, nat_list_eq_equiv}
-use Rattle.std.specs.HashMap.{HashMap, get_by, UpdatesBy}
+use Rattle.std.specs.HashMap.{HashMap, UpdatesBy}
 use Rattle.std.specs.Map.{lookup, IsKeyTest, AreApart, KeepsOthers}
 use Rattle.std.specs.Option.{unwrap_or}
 use Rattle.std.specs.Str.{bytes_eq}
@@ -19,6 +19,12 @@ kept : {K A : Type 0} (eq : K → K → Bool) (test : K → Bool) (old new : Lis
     → (other : K → Bool) → IsKeyTest eq other → AreApart test other → lookup other new ≡ lookup other old
 unfolding KeepsOthers
 kept eq test old new h = h
+
+-- what is left of a name's meanings without the newest
+rest_is : (before now after : List Bool) (is_type : Bool) (popped : Option Bool) → MatchOption popped ((before ≡ []) × (now ≡ [])) (λ top. before ≡ top ∷ now)
+    → before ≡ is_type ∷ after → now ≡ after
+rest_is before now after is_type None popped was = let empty : before ≡ [] = popped.0 in cc
+rest_is before now after is_type (Some top) popped was = cc
 
 module _ {X S : Type 0} (old new : HashMap (Vec ℕ X) (List Bool) S) where
   -- the name has this in the new map, and the others have what they had
@@ -47,12 +53,6 @@ module _ {X S : Type 0} (old new : HashMap (Vec ℕ X) (List Bool) S) where
       (λ differ. there entry.name now change name differ ∙ had name ∙ sym (cond-false (bytes_eq entry.name name) _ _ differ))
       (cases_Bool (bytes_eq entry.name name))
 
-  -- what is left of a name's meanings without the first
-  pub rest_is : (before now after : List Bool) (is_type : Bool) (popped : Option Bool) → MatchOption popped ((before ≡ []) × (now ≡ [])) (λ top. before ≡ top ∷ now)
-      → before ≡ is_type ∷ after → now ≡ after
-  rest_is before now after is_type None popped was = let empty : before ≡ [] = popped.0 in cc
-  rest_is before now after is_type (Some top) popped was = cc
-
   -- an entry is taken away
   pub meanings_removed : (entry : Entry) (bytes : List ℕ) → bytes ≡ entry.name → (before now : List Bool) (popped : Option Bool) → Changes bytes now → meanings_at old bytes ≡ before
       → MatchOption popped ((before ≡ []) × (now ≡ [])) (λ top. before ≡ top ∷ now)
@@ -73,30 +73,17 @@ module _ {X S : Type 0} (old new : HashMap (Vec ℕ X) (List Bool) S) where
 -- the newest of a name's meanings is what the first declaration found says
 pub newest_is : (entries : List Entry) (name : List ℕ) → slice_get (meanings entries name) 0 ≡ find_in entries name
 newest_is [] name = refl
-newest_is (entry ∷ entries) name =
-    ⊎_elim
-    (λ same. ap (λ said. slice_get said 0) (cond-true (bytes_eq entry.name name) _ _ same) ∙ sym (cond-true (bytes_eq entry.name name) _ _ same))
-    (λ differ. ap (λ said. slice_get said 0) (cond-false (bytes_eq entry.name name) _ _ differ) ∙ newest_is entries name ∙ sym (cond-false (bytes_eq entry.name name) _ _ differ))
-    (cases_Bool (bytes_eq entry.name name))
+newest_is (entry ∷ entries) name = grind (arith, cond-true, cond-false, newest_is entries name)
 
 -- a name is looked up in a block, and then in the declarations outside
-find_append : (block entries : List Entry) (name : List ℕ) → unwrap_or (find_in (block ++ entries) name) false ≡ find_further (find_in block name) (unwrap_or (find_in entries name) false)
+find_append : (block entries : List Entry) (name : List ℕ)
+    → unwrap_or (find_in (block ++ entries) name) false ≡ find_further (find_in block name) (unwrap_or (find_in entries name) false)
 find_append [] entries name = refl
-find_append (entry ∷ block) entries name =
-    ⊎_elim
-    (λ same. ap (λ found. unwrap_or found false) (cond-true (bytes_eq entry.name name) _ _ same) ∙ ap (λ found. find_further found (unwrap_or (find_in entries name) false)) (sym (cond-true (bytes_eq entry.name name) _ _ same)))
-    (λ differ. ap (λ found. unwrap_or found false) (cond-false (bytes_eq entry.name name) _ _ differ) ∙ find_append block entries name
-    ∙ ap (λ found. find_further found (unwrap_or (find_in entries name) false)) (sym (cond-false (bytes_eq entry.name name) _ _ differ)))
-    (cases_Bool (bytes_eq entry.name name))
+find_append (entry ∷ block) entries name = grind (arith, cond-true, cond-false, find_append block entries name)
 
 pub names_type_is : (blocks : List (List Entry)) (name : List ℕ) → unwrap_or (find_in (entries_of blocks) name) false ≡ names_type blocks name
 names_type_is [] name = refl
 names_type_is (block ∷ blocks) name = find_append block (entries_of blocks) name ∙ ap (find_further (find_in block name)) (names_type_is blocks name)
-
--- the innermost block's declarations come first
-pub entries_of_first : (blocks : List (List Entry)) → first_of blocks ++ entries_of (without_first blocks) ≡ entries_of blocks
-entries_of_first [] = refl
-entries_of_first (block ∷ blocks) = refl
 
 -- one more entry in front of those that come before
 pub reverse_push : (older : List Entry) (entry : Entry) (entries : List Entry) → reverse (older ++ entry ∷ []) ++ entries ≡ entry ∷ (reverse older ++ entries)
@@ -105,6 +92,5 @@ reverse_push older entry entries = ap (λ block. block ++ entries) (reverse-appe
 -- a declaration in the innermost block is in front of all others
 pub entries_of_declared : (blocks whole rest : List (List Entry)) (block pushed : List Entry) (entry : Entry) → block ≡ first_of blocks → rest ≡ without_first blocks
     → pushed ≡ entry ∷ block → whole ≡ pushed ∷ rest → entry ∷ entries_of blocks ≡ entries_of whole
-entries_of_declared blocks whole rest block pushed entry first others push is =
-    ap (λ entries. entry ∷ entries) (sym (entries_of_first blocks) ∙ ap (λ b. b ++ entries_of (without_first blocks)) (sym first) ∙ ap (λ bs. block ++ entries_of bs) (sym others))
-    ∙ ap (λ b. b ++ entries_of rest) (sym push) ∙ ap entries_of (sym is)
+entries_of_declared [] whole rest block pushed entry first others push is = simp (is, push, first, others)
+entries_of_declared (innermost ∷ blocks) whole rest block pushed entry first others push is = simp (is, push, first, others)

@@ -13,14 +13,14 @@ use std::collections::HashMap;
 
 /// For each name whether its declarations are of a typedef name, the newest first.
 #[derive(Drop)]
-pub struct Meanings {
+pub(crate) struct Meanings {
     alloc: Global,
     by_name: HashMap<Vec<u8>, Stack<bool>>,
 }
 
 impl Meanings {
     /// Those of no declarations. It takes no memory.
-    pub fn new(alloc: Global) -> Meanings
+    pub(crate) fn new(alloc: Global) -> Meanings
         ensures { HasMeanings [] result.by_name }
     {
         Meanings {
@@ -30,7 +30,7 @@ impl Meanings {
     }
 
     /// Whether the newest declaration of a name is of a typedef name.
-    pub fn newest(&self, name: &[u8]) -> Option<bool>
+    pub(crate) fn newest(&self, name: &[u8]) -> Option<bool>
         ensures { (entries : List Declared) → HasMeanings entries self.now.by_name → result ≡ find_in entries name.now }
     {
         match self.by_name.get(name) {
@@ -40,7 +40,7 @@ impl Meanings {
     }
 
     /// Adds a declaration, which is the newest. Without memory for it the meanings are no longer of use.
-    pub fn add(&mut self, entry: &Entry) -> Result<(), NoMemory>
+    pub(crate) fn add(&mut self, entry: &Entry) -> Result<(), NoMemory>
         ensures { OnOk result ((entries : List Declared) → HasMeanings entries self.old.by_name → HasMeanings (entry.now ∷ entries) self.new.by_name) }
     {
         if let Some(meanings) = self.by_name.get_mut(entry.name.as_slice()) {
@@ -54,7 +54,7 @@ impl Meanings {
     }
 
     /// Takes the newest declaration away.
-    pub fn remove(&mut self, entry: &Entry)
+    pub(crate) fn remove(&mut self, entry: &Entry)
         ensures { (entries : List Declared) → HasMeanings (entry.now ∷ entries) self.old.by_name → HasMeanings entries self.new.by_name }
     {
         if let Some(meanings) = self.by_name.get_mut(entry.name.as_slice()) {
@@ -63,7 +63,7 @@ impl Meanings {
     }
 
     /// Adds a block's declarations, the newest last.
-    pub fn add_block(&mut self, block: &Block) -> Result<(), NoMemory>
+    pub(crate) fn add_block(&mut self, block: &Block) -> Result<(), NoMemory>
         ensures { OnOk result ((entries : List Declared) → HasMeanings entries self.old.by_name → HasMeanings (block.now ++ entries) self.new.by_name) }
     {
         for entry in block.as_slice() {
@@ -73,7 +73,7 @@ impl Meanings {
     }
 
     /// Takes a block's declarations away, which are the newest.
-    pub fn remove_block(&mut self, block: &Block)
+    pub(crate) fn remove_block(&mut self, block: &Block)
         ensures { (entries : List Declared) → HasMeanings (block.now ++ entries) self.old.by_name → HasMeanings entries self.new.by_name }
     {
         for entry in block.as_slice().iter().rev() {

@@ -59,6 +59,7 @@ impl Scopes {
     pub fn declare(&mut self, name: Bytes, is_type: bool) -> Result<(), NoMemory>
         ensures { OnOk result (self.new ≡ spec.declared_in self.old name is_type) }
     {
+        // Both are put back together at the end, so that a refusal leaves nothing declared.
         let mut blocks = mem::replace(&mut self.blocks, Stack::new(self.alloc));
         let mut meanings = mem::replace(&mut self.meanings, Meanings::new(self.alloc));
         let mut block = take_first(self.alloc, &mut blocks);
@@ -75,6 +76,7 @@ impl Scopes {
     pub fn enter(&mut self, block: Block) -> Result<(), NoMemory>
         ensures { OnOk result (self.new ≡ block ∷ self.old) }
     {
+        // Both are put back together at the end, so that a refusal leaves nothing declared.
         let mut blocks = mem::replace(&mut self.blocks, Stack::new(self.alloc));
         let mut meanings = mem::replace(&mut self.meanings, Meanings::new(self.alloc));
         meanings.add_block(&block)?;

@@ -1,5 +1,4 @@
 use Rattle.std.proofs.Common.{◌≡◌, ◌+◌, reverse, take, ◌∷◌, [], ◌++◌, ◌∙◌, ap, sym, subst, arith}
-use Rattle.c_tree.specs.declared.scope.Entry.{Entry}
 use Rattle.std.proofs.lemmas.Grind.{common_steps}
 use Rattle.c_scopes.specs.Meanings.{HasMeanings}
 use Rattle.c_scopes.proofs.Changes.{reverse_push}
