@@ -5,3 +5,5 @@ pub mod Skipped
 pub mod Arrays
 pub mod Suffixed
 pub mod Single
+pub mod ParameterSteps
+pub mod DeclaratorSteps

@@ -212,7 +212,7 @@ opens_both : {B C : Type 0} (m : Mark) (o : Outcome C) (p : Outcome B) (g : B �
 opens_both spec.RoundOpens o p g e = e
 opens_both _ o p g e = refl
 
-closes_both : {B C : Type 0} (m : Mark) (o : Outcome C) (p : Outcome B) (g : B → Place → Outcome C) → o ≡ and_then p g → where_closes m o ≡ and_then (where_closes m p) g
+pub closes_both : {B C : Type 0} (m : Mark) (o : Outcome C) (p : Outcome B) (g : B → Place → Outcome C) → o ≡ and_then p g → where_closes m o ≡ and_then (where_closes m p) g
 closes_both spec.RoundCloses o p g e = e
 closes_both _ o p g e = refl
 
@@ -220,12 +220,12 @@ attribute_on : (kinds : List TokenKind) (inside more : Skips) (p : Place)
     → attribute kinds inside more p ≡ and_then (attribute kinds inside (λ q. Gives tt q) p) (λ u q. more q)
 attribute_on kinds inside more p =
     let last : (q : Place) → where_closes (mark_at kinds q) (where_closes (mark_at kinds (next q)) (more (next (next q))))
-            ≡ and_then (where_closes (mark_at kinds q) (where_closes (mark_at kinds (next q)) (Gives tt (next (next q))))) (λ u q. more q) =
-        λ q. closes_both (mark_at kinds q) (where_closes (mark_at kinds (next q)) (more (next (next q)))) (where_closes (mark_at kinds (next q)) (Gives tt (next (next q)))) (λ u q. more q)
-            (closes_both (mark_at kinds (next q)) (more (next (next q))) (Gives tt (next (next q))) (λ u q. more q) refl) in
+    ≡ and_then (where_closes (mark_at kinds q) (where_closes (mark_at kinds (next q)) (Gives tt (next (next q))))) (λ u q. more q) =
+    λ q. closes_both (mark_at kinds q) (where_closes (mark_at kinds (next q)) (more (next (next q)))) (where_closes (mark_at kinds (next q)) (Gives tt (next (next q)))) (λ u q. more q)
+    (closes_both (mark_at kinds (next q)) (more (next (next q))) (Gives tt (next (next q))) (λ u q. more q) refl) in
     opens_both (mark_at kinds p) _ _ (λ u q. more q) (opens_both (mark_at kinds (next p)) _ _ (λ u q. more q)
-        (then_both (inside (next (next p))) (λ u q. where_closes (mark_at kinds q) (where_closes (mark_at kinds (next q)) (more (next (next q)))))
-        (λ u q. where_closes (mark_at kinds q) (where_closes (mark_at kinds (next q)) (Gives tt (next (next q))))) (λ u q. more q) (λ u q. last q)))
+    (then_both (inside (next (next p))) (λ u q. where_closes (mark_at kinds q) (where_closes (mark_at kinds (next q)) (more (next (next q)))))
+    (λ u q. where_closes (mark_at kinds q) (where_closes (mark_at kinds (next q)) (Gives tt (next (next q))))) (λ u q. more q) (λ u q. last q)))
 
 attributes_step : (kinds : List TokenKind) (n : ℕ) (p : Place) → 0 < n
     → attributes kinds n p ≡ attributes_by kinds (balanced kinds (n - 1) []) (attributes kinds (n - 1)) p (mark_at kinds p)

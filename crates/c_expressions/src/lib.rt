@@ -1,6 +1,7 @@
 //! The reader of expressions, specifiers and declarators, which reach one another.
 #![tactic(auto)]
 
+mod declarators;
 mod expression;
 mod fault;
 pub mod grammar;
