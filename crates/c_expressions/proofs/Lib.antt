@@ -7,3 +7,5 @@ pub mod Suffixed
 pub mod Single
 pub mod ParameterSteps
 pub mod DeclaratorSteps
+pub mod Listed
+pub mod SpecifierSteps

@@ -128,7 +128,7 @@ balanced_differs kinds n i pending further p innermost b h f e g =
 
 -- ---- qualifiers
 
-append_none : {A : Type 0} (xs : List A) → xs ++ [] ≡ xs
+pub append_none : {A : Type 0} (xs : List A) → xs ++ [] ≡ xs
 append_none [] = refl
 append_none (x ∷ xs) = ap (λ ys. x ∷ ys) (append_none xs)
 

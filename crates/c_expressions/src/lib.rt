@@ -9,6 +9,7 @@ mod marks;
 mod operands;
 mod parts;
 mod skips;
+mod specifiers;
 mod tokens;
 mod type_names;
 
