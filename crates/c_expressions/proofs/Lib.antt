@@ -3,5 +3,8 @@ pub mod Gathered
 pub mod Bracketed
 pub mod Skipped
 pub mod Arrays
+pub mod Unnamed
+pub mod Qualifies
 pub mod Suffixed
 pub mod Single
+pub mod SameMark
