@@ -5,7 +5,9 @@ use Rattle.c_tree.specs.declared.expression.Expression.{Expression}
 use Rattle.c_tree.specs.declared.expression.Expression.TheVariants as tree
 use Rattle.c_tree.specs.Places.{Place, next}
 use Rattle.c_expressions.specs.declared.fault.Fault.{Fault}
-use Rattle.c_grammar.specs.Kinds.{kind_at, Suffix, ClosesRound, suffix, Prefix, Opens, prefix, begins_type}
+use Rattle.c_grammar.specs.declared.kinds.Suffix.{Suffix}
+use Rattle.c_grammar.specs.declared.kinds.Suffix.TheVariants.{ClosesRound}
+use Rattle.c_grammar.specs.Kinds.{kind_at, suffix, Prefix, Opens, prefix, begins_type}
 use Rattle.c_grammar.specs.Reader.{Outcome, Gives, Refuses, and_then, where_round, bracketed, sized, sized_by}
 use Rattle.c_grammar.specs.Readers.{read, more, types}
 use Rattle.c_expressions.specs.Reads.{Reads, closed_expression, closed_type, grouped, cast, sized_type, sized_operand, opens_by, opens_type}

@@ -5,7 +5,9 @@ use Rattle.c_tree.specs.declared.expression.Expression.{Expression}
 use Rattle.c_tree.specs.Places.{Place, next}
 use Rattle.c_expressions.specs.declared.fault.Fault.{Fault}
 use Rattle.c_expressions.specs.declared.fault.Fault.TheVariants.{Syntax, NoMemory}
-use Rattle.c_grammar.specs.Kinds.{kind_at, Suffix, Commas, suffix, goes_on}
+use Rattle.c_grammar.specs.declared.kinds.Suffix.{Suffix}
+use Rattle.c_grammar.specs.declared.kinds.Suffix.TheVariants.{Commas}
+use Rattle.c_grammar.specs.Kinds.{kind_at, suffix, goes_on}
 use Rattle.c_grammar.specs.Reader.{Outcome, Gives, Refuses, and_then, Reader, items_after, items}
 use Rattle.c_grammar.specs.Readers.{read, more}
 use Rattle.c_expressions.specs.Reads.{Reads, suffixed}

@@ -2,7 +2,9 @@
 use Rattle.std.proofs.Common.{◌≡◌, List, ℕ, refl}
 use Rattle.c_model.specs.declared.token.TokenKind.{TokenKind}
 use Rattle.c_tree.specs.Places.{Place, next}
-use Rattle.c_grammar.specs.Kinds.{kind_at, Suffix, ClosesRound, ClosesSquare, Colons, suffix, Prefix, Names, prefix}
+use Rattle.c_grammar.specs.declared.kinds.Suffix.{Suffix}
+use Rattle.c_grammar.specs.declared.kinds.Suffix.TheVariants.{ClosesRound, ClosesSquare, Colons}
+use Rattle.c_grammar.specs.Kinds.{kind_at, suffix, Prefix, Names, prefix}
 use Rattle.c_grammar.specs.Reader.{Outcome, Gives, Refuses, and_then, where_round, where_square, where_colon, where_name}
 use Rattle.c_expressions.specs.Reads.{closes_round, closes_square, colon, name_read}
 

@@ -5,7 +5,9 @@ use Rattle.c_tree.specs.declared.expression.Expression.{Expression}
 use Rattle.c_tree.specs.declared.expression.Expression.TheVariants as tree
 use Rattle.c_tree.specs.Places.{Place, next}
 use Rattle.c_tree.specs.Signs.{level}
-use Rattle.c_grammar.specs.Kinds.{kind_at, Suffix, Infix, Assigns, Asks, Commas, Subscripts, Calls, Selects, Points, Steps, ClosesRound, ClosesSquare, Colons, NoSuffix, suffix, goes_on, Prefix, Names, prefix}
+use Rattle.c_grammar.specs.declared.kinds.Suffix.{Suffix}
+use Rattle.c_grammar.specs.declared.kinds.Suffix.TheVariants.{Infix, Assigns, Asks, Commas, Subscripts, Calls, Selects, Points, Steps, ClosesRound, ClosesSquare, Colons, NoSuffix}
+use Rattle.c_grammar.specs.Kinds.{kind_at, suffix, goes_on, Prefix, Names, prefix}
 use Rattle.c_grammar.specs.Reader.{Outcome, Gives, Refuses, and_then, where_round, where_square, where_colon, where_name, Reader, Continues, Lists, items, call_of, choice_of, suffix_taken}
 use Rattle.c_grammar.specs.Readers.{read, more}
 use Rattle.c_expressions.specs.Reads.{stop, suffixed}

@@ -16,7 +16,9 @@ use Rattle.c_expressions.specs.declared.parts.Titled.{Titled}
 use Rattle.c_expressions.specs.declared.parts.Perhaps.{Perhaps}
 use Rattle.c_expressions.specs.declared.parts.Perhaps.TheVariants.{With, Without}
 use Rattle.c_expressions.specs.declared.parts.Parameters.{Parameters}
-use Rattle.c_grammar.specs.Kinds.{kind_at, Suffix, NoSuffix, suffix, Prefix, Opens, prefix, begins_type}
+use Rattle.c_grammar.specs.declared.kinds.Suffix.{Suffix}
+use Rattle.c_grammar.specs.declared.kinds.Suffix.TheVariants.{NoSuffix}
+use Rattle.c_grammar.specs.Kinds.{kind_at, suffix, Prefix, Opens, prefix, begins_type}
 use Rattle.c_grammar.specs.Reader.{Outcome, Gives, Refuses, and_then, where_round, where_square, where_colon, where_name, Continues, items, suffix_taken, prefix_taken}
 use Rattle.c_grammar.specs.ReadTypes as spec
 use Rattle.c_grammar.specs.Readers.{read, more, specifiers, perhaps, types}

@@ -95,6 +95,7 @@ fn attribute(
 }
 
 /// Attributes and `__extension__`, as many as there are.
+#[tactic(auto, using(crate::proofs::Skipped::attributes_none, crate::proofs::Skipped::attributes_extension, crate::proofs::Skipped::attributes_next, crate::proofs::Skipped::attributes_refused, crate::proofs::Skipped::attributes_end))]
 pub fn attributes(
     alloc: Global,
     tokens: &[Token],

@@ -1,7 +1,7 @@
 //! Qualifiers (C11 6.7.3) and type names (6.7.7).
 
 ghost use Rattle.std.specs.Prelude.{◌≡◌, ◌≤◌, ◌<◌};
-ghost use Rattle.c_tree.specs.Spells.{InParameter, InTypeName, may_all_qualify};
+ghost use Rattle.c_tree.specs.Spells.{InParameter, InTypeName, may_qualify, may_all_qualify};
 ghost use Rattle.c_tree.specs.SpellsText.{kinds_of};
 ghost use Rattle.c_expressions.specs.Bare.{array_read, closed_size};
 ghost use Rattle.c_grammar.specs.ReadTypes as spec;
@@ -43,18 +43,32 @@ pub fn qualifiers(
     Err(refuse(place))
 }
 
-/// Whether these qualifiers may stand before a type name that names nothing.
+/// Whether a qualifier may stand behind a `*` of a type name.
+fn qualifies_type(qualifier: Qualifier) -> bool
+    ensures { result ≡ may_qualify InTypeName qualifier }
+{
+    matches!(qualifier, Qualifier::Const)
+}
+
+/// Whether a qualifier may stand behind a `*` of a parameter that has no name.
+fn qualifies_parameter(qualifier: Qualifier) -> bool
+    ensures { result ≡ may_qualify InParameter qualifier }
+{
+    matches!(qualifier, Qualifier::Const | Qualifier::Restrict)
+}
+
+/// Whether these qualifiers may stand behind a `*` of a type name.
 fn may_qualify_type(list: &[Qualifier]) -> bool
     ensures { result ≡ may_all_qualify InTypeName list.now }
 {
-    list.iter().all(|qualifier| *qualifier == Qualifier::Const)
+    list.iter().all(|qualifier| qualifies_type(*qualifier))
 }
 
-/// Whether these qualifiers may stand before a parameter that has no name.
+/// Whether these qualifiers may stand behind a `*` of a parameter that has no name.
 pub fn may_qualify_parameter(list: &[Qualifier]) -> bool
     ensures { result ≡ may_all_qualify InParameter list.now }
 {
-    list.iter().all(|qualifier| *qualifier != Qualifier::Volatile)
+    list.iter().all(|qualifier| qualifies_parameter(*qualifier))
 }
 
 impl<

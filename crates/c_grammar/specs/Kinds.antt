@@ -7,13 +7,10 @@ use Rattle.c_tree.specs.declared.expression.Step.{Step}
 use Rattle.c_tree.specs.declared.expression.Step.TheVariants as step
 use Rattle.c_tree.specs.declared.expression.UnaryOperator.{UnaryOperator}
 use Rattle.c_tree.specs.declared.expression.UnaryOperator.TheVariants as unary
-use Rattle.c_tree.specs.declared.expression.BinaryOperator.{BinaryOperator}
 use Rattle.c_tree.specs.declared.expression.BinaryOperator.TheVariants as binary
-use Rattle.c_tree.specs.declared.expression.AssignOperator.{AssignOperator}
 use Rattle.c_tree.specs.declared.expression.AssignOperator.TheVariants as assign
 use Rattle.c_tree.specs.Places.{Place, names_type}
 use Rattle.c_tree.specs.Signs.{level}
-
 pub use Rattle.c_grammar.specs.declared.kinds.Suffix.{Suffix}
 pub use Rattle.c_grammar.specs.declared.kinds.Suffix.TheVariants.{Infix, Assigns, Asks, Commas, Subscripts, Calls, Selects, Points, Steps, ClosesRound, ClosesSquare, Colons, NoSuffix}
 

@@ -176,4 +176,3 @@ impl Suffix {
         least < self.below() && self.needs() <= reached
     }
 }
-
