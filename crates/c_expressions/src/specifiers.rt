@@ -309,7 +309,7 @@ impl<
 
     /// An enumeration constant (6.7.2.2).
     #[tactic(auto, using(crate::proofs::SpecifierSteps::constant_read))]
-    fn constant(&self, place: &mut Cursor) -> Result<EnumConstant, Fault>
+    fn enum_constant(&self, place: &mut Cursor) -> Result<EnumConstant, Fault>
         requires nested { IsNested self.now.depth (R.pre self.now.read) (R.post self.now.read) (S.pre self.now.specifiers) (S.post self.now.specifiers) (P.pre self.now.perhaps) (P.post self.now.perhaps) }
         ensures { Reads (constant_at (kinds_of self.now.tokens.now) self.now.depth place.old) result place.new }
     {
@@ -325,7 +325,7 @@ impl<
     {
         let mut found = Items::new(self.alloc);
         for _turn in 0..self.depth {
-            let constant = self.constant(place)?;
+            let constant = self.enum_constant(place)?;
             found.push(constant)?;
             let Mark::Comma = mark_at(self.tokens, place) else {
                 return Ok(found);
