@@ -15,12 +15,6 @@ use Rattle.c_expressions.proofs.Gathered.{after, after_none, joined, one_further
 use Rattle.c_expressions.proofs.Skipped.{append_none}
 use Rattle.c_expressions.proofs.Suffixed.{then_both}
 
--- what was found when a loop begins
-pub after_begins : {A : Type 0} (go : ℕ → Outcome (List A)) (n i : ℕ) (found : List A) → i ≡ 0 → found ≡ [] → go n ≡ after found (go (n - i))
-after_begins go n i found h e =
-    let all : n ≡ n - i = omega arith in
-    ap go all ∙ (after_none (go (n - i)) ∙ ap (λ xs. after xs (go (n - i))) (sym e))
-
 -- ---- with a comma between each two
 
 separated_step : {A : Type 0} (kinds : List TokenKind) (one : Place → Outcome A) (n i : ℕ) (p : Place) → i < n

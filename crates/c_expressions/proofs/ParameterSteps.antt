@@ -22,10 +22,6 @@ taken_after found Refuses = Refuses
 abbrev pub further_parameters : List TokenKind → ℕ → ℕ → Place → Outcome Takes
 further_parameters kinds d n p = parameters kinds (parameter (attributes kinds d) (specifiers kinds d) (perhaps kinds d)) n p
 
-taken_none : (o : Outcome Takes) → o ≡ taken_after [] o
-taken_none (Gives (Taken list variadic) q) = refl
-taken_none Refuses = refl
-
 taken_joined : (found : List Parameter) (x : Parameter) (o : Outcome Takes) → taken_after found (and_then o (first_taken x)) ≡ taken_after (found ++ x ∷ []) o
 taken_joined found x (Gives (Taken list variadic) q) = ap (λ ys. Gives (Taken ys variadic) q) (sym (append_assoc found (x ∷ []) list))
 taken_joined found x Refuses = refl
@@ -56,12 +52,6 @@ by_variadic more x q _ e = cc
 by_further : (more : Place → Outcome Takes) (x : Parameter) (q : Place) (m : Mark) → (bare m ≡ mark.Ellipsis → ⊥) → parameters_comma more x q m ≡ and_then (more q) (first_taken x)
 by_further more x q spec.Ellipsis f = absurd (f refl)
 by_further more x q _ f = refl
-
-pub parameters_begin : (kinds : List TokenKind) (n i : ℕ) (p : Place) (found : List Parameter) → i ≡ 0 → found ≡ []
-    → parameters_at kinds n p ≡ taken_after found (further_parameters kinds n (n - i) p)
-parameters_begin kinds n i p found h e =
-    let all : n ≡ n - i = omega arith in
-    ap (λ m. further_parameters kinds n m p) all ∙ (taken_none (further_parameters kinds n (n - i) p) ∙ ap (λ xs. taken_after xs (further_parameters kinds n (n - i) p)) (sym e))
 
 pub parameters_refused : (kinds : List TokenKind) (d n i : ℕ) (p : Place) (found : List Parameter) → i < n → parameter_at kinds d p ≡ Refuses
     → taken_after found (further_parameters kinds d (n - i) p) ≡ Refuses

@@ -29,52 +29,10 @@ use Rattle.c_expressions.proofs.DeclaratorSteps.{name_of, name_marked}
 
 -- ---- what reads one outcome reads an equal one
 
-pub reads_along : {A : Type 0} (whole o : Outcome A) (r : Result A Fault) (s : Place) → whole ≡ o → Reads o r s → Reads whole r s
-reads_along whole o r s e k = subst (λ t. Reads t r s) (sym e) k
-
 pub reads_as_along : {A B : Type 0} (view : B → A) (whole o : Outcome A) (r : Result B Fault) (s : Place) → whole ≡ o → ReadsAs view o r s → ReadsAs view whole r s
 reads_as_along view whole o r s e k = subst (λ t. ReadsAs view t r s) (sym e) k
 
--- ---- members
-
-unnamed_by : (kinds : List TokenKind) (n : ℕ) (p : Place) (m : Mark) → bare m ≡ mark.Colon
-    → types.member_by kinds (read kinds n) (declarator kinds n) p m ≡ unnamed_bit_field kinds n p
-unnamed_by kinds n p spec.Colon e = refl
-unnamed_by kinds n p _ e = cc
-
-named_by : (kinds : List TokenKind) (n : ℕ) (p : Place) (m : Mark) → (bare m ≡ mark.Colon → ⊥)
-    → types.member_by kinds (read kinds n) (declarator kinds n) p m ≡ named_member kinds n p
-named_by kinds n p spec.Colon f = absurd (f refl)
-named_by kinds n p _ f = refl
-
-sized_by : (kinds : List TokenKind) (n : ℕ) (d : Titled) (p : Place) (m : Mark) → bare m ≡ mark.Colon → types.member_after (read kinds n) d p m ≡ bit_field kinds n d p
-sized_by kinds n (Titles name parameters inner) p spec.Colon e = refl
-sized_by kinds n (Titles name parameters inner) p _ e = cc
-
-plain_by : (kinds : List TokenKind) (n : ℕ) (name : List ℕ) (parameters : Option (List Entry)) (inner : Declarator) (p : Place) (m : Mark) → (bare m ≡ mark.Colon → ⊥)
-    → types.member_after (read kinds n) (Titles name parameters inner) p m ≡ Gives (member_node.Plain inner) p
-plain_by kinds n name parameters inner p spec.Colon f = absurd (f refl)
-plain_by kinds n name parameters inner p _ f = refl
-
-pub member_unnamed : (kinds : List TokenKind) (n : ℕ) (p : Place) → bare (mark_at kinds p) ≡ mark.Colon → member_at kinds n p ≡ unnamed_bit_field kinds n p
-member_unnamed kinds n p e = unnamed_by kinds n p (mark_at kinds p) e
-
-pub member_named : (kinds : List TokenKind) (n : ℕ) (p : Place) → (bare (mark_at kinds p) ≡ mark.Colon → ⊥) → member_at kinds n p ≡ named_member kinds n p
-member_named kinds n p f = named_by kinds n p (mark_at kinds p) f
-
-pub member_sized : (kinds : List TokenKind) (n : ℕ) (d : Titled) (p : Place) → bare (mark_at kinds p) ≡ mark.Colon
-    → types.member_after (read kinds n) d p (mark_at kinds p) ≡ bit_field kinds n d p
-member_sized kinds n d p e = sized_by kinds n d p (mark_at kinds p) e
-
-pub member_plain : (kinds : List TokenKind) (n : ℕ) (name : List ℕ) (parameters : Option (List Entry)) (inner : Declarator) (p : Place) → (bare (mark_at kinds p) ≡ mark.Colon → ⊥)
-    → types.member_after (read kinds n) (Titles name parameters inner) p (mark_at kinds p) ≡ Gives (member_node.Plain inner) p
-member_plain kinds n name parameters inner p f = plain_by kinds n name parameters inner p (mark_at kinds p) f
-
 -- ---- enumeration constants
-
-valued_by : (kinds : List TokenKind) (n : ℕ) (text : List ℕ) (at : ℕ) (p : Place) (m : Mark) → bare m ≡ mark.Equals → constant_after kinds n text at p m ≡ valued_constant kinds n text at p
-valued_by kinds n text at p spec.Equals e = refl
-valued_by kinds n text at p _ e = cc
 
 next_by : (kinds : List TokenKind) (n : ℕ) (text : List ℕ) (at : ℕ) (p : Place) (m : Mark) → (bare m ≡ mark.Equals → ⊥)
     → constant_after kinds n text at p m ≡ Gives (constant_node.Next text at) (declare p text false)
@@ -90,10 +48,6 @@ constant_by : (kinds : List TokenKind) (n : ℕ) (p : Place) (m : Mark)
 constant_by kinds n p (spec.Name text) = same_constant kinds n text p (mark_at kinds (next p))
 constant_by kinds n p _ = refl
 
-pub constant_valued : (kinds : List TokenKind) (n : ℕ) (text : List ℕ) (at : ℕ) (p : Place) → bare (mark_at kinds p) ≡ mark.Equals
-    → constant_after kinds n text at p (mark_at kinds p) ≡ valued_constant kinds n text at p
-constant_valued kinds n text at p e = valued_by kinds n text at p (mark_at kinds p) e
-
 pub constant_next : (kinds : List TokenKind) (n : ℕ) (text : List ℕ) (at : ℕ) (p : Place) → (bare (mark_at kinds p) ≡ mark.Equals → ⊥)
     → constant_after kinds n text at p (mark_at kinds p) ≡ Gives (constant_node.Next text at) (declare p text false)
 constant_next kinds n text at p f = next_by kinds n text at p (mark_at kinds p) f
@@ -105,32 +59,16 @@ constant_read kinds n p =
 
 -- ---- structs and enumerations
 
-struct_opens : (kinds : List TokenKind) (n : ℕ) (p : Place) (m : Mark) → bare m ≡ mark.CurlyOpens
-    → types.struct_by kinds (lines_at kinds n) p m ≡ types.struct_body kinds (lines_at kinds n) (at_number p.at) None (next p)
-struct_opens kinds n p spec.CurlyOpens e = refl
-struct_opens kinds n p _ e = cc
-
 struct_names : (kinds : List TokenKind) (n : ℕ) (p : Place) (m : Mark) → (bare m ≡ mark.CurlyOpens → ⊥)
     → types.struct_by kinds (lines_at kinds n) p m ≡ and_then (name_of (next p) m) (λ tag q. types.struct_tagged kinds (lines_at kinds n) (at_number p.at) tag q (mark_at kinds q))
 struct_names kinds n p spec.CurlyOpens f = absurd (f refl)
 struct_names kinds n p (spec.Name tag) f = refl
 struct_names kinds n p _ f = refl
 
-tagged_body : (kinds : List TokenKind) (n at : ℕ) (tag : List ℕ) (p : Place) (m : Mark) → bare m ≡ mark.CurlyOpens
-    → types.struct_tagged kinds (lines_at kinds n) (at_number at) tag p m ≡ types.struct_body kinds (lines_at kinds n) (at_number at) (Some tag) p
-tagged_body kinds n at tag p spec.CurlyOpens e = refl
-tagged_body kinds n at tag p _ e = cc
-
 tagged_alone : (kinds : List TokenKind) (n at : ℕ) (tag : List ℕ) (p : Place) (m : Mark) → (bare m ≡ mark.CurlyOpens → ⊥)
     → types.struct_tagged kinds (lines_at kinds n) (at_number at) tag p m ≡ Gives (Plays Types (specifier_node.StructTag tag at)) p
 tagged_alone kinds n at tag p spec.CurlyOpens f = absurd (f refl)
 tagged_alone kinds n at tag p _ f = refl
-
-pub struct_plain : (kinds : List TokenKind) (n at : ℕ) (p q : Place) → at ≡ p.at → q ≡ next p → bare (mark_at kinds q) ≡ mark.CurlyOpens
-    → structure kinds n p ≡ types.struct_body kinds (lines_at kinds n) (at_number at) None q
-struct_plain kinds n at p q a e h =
-    struct_opens kinds n p (mark_at kinds (next p)) (ap (λ t. bare (mark_at kinds t)) (sym e) ∙ h)
-    ∙ (ap (λ t. types.struct_body kinds (lines_at kinds n) (at_number t) None (next p)) (sym a) ∙ ap (types.struct_body kinds (lines_at kinds n) (at_number at) None) (sym e))
 
 pub struct_named : (kinds : List TokenKind) (n at : ℕ) (p q : Place) → at ≡ p.at → q ≡ next p → (bare (mark_at kinds q) ≡ mark.CurlyOpens → ⊥)
     → structure kinds n p ≡ and_then (name_read kinds q) (λ tag r. types.struct_tagged kinds (lines_at kinds n) (at_number at) tag r (mark_at kinds r))
@@ -140,18 +78,9 @@ struct_named kinds n at p q a e h =
     ∙ (ap (λ t. and_then (name_of t (mark_at kinds t)) (λ tag r. types.struct_tagged kinds (lines_at kinds n) (at_number at) tag r (mark_at kinds r))) (sym e)
     ∙ ap (λ o. and_then o (λ tag r. types.struct_tagged kinds (lines_at kinds n) (at_number at) tag r (mark_at kinds r))) (sym (name_marked kinds q))))
 
-pub struct_tag_body : (kinds : List TokenKind) (n at : ℕ) (tag : List ℕ) (p : Place) → bare (mark_at kinds p) ≡ mark.CurlyOpens
-    → types.struct_tagged kinds (lines_at kinds n) (at_number at) tag p (mark_at kinds p) ≡ types.struct_body kinds (lines_at kinds n) (at_number at) (Some tag) p
-struct_tag_body kinds n at tag p e = tagged_body kinds n at tag p (mark_at kinds p) e
-
 pub struct_tag_alone : (kinds : List TokenKind) (n at : ℕ) (tag : List ℕ) (p : Place) → (bare (mark_at kinds p) ≡ mark.CurlyOpens → ⊥)
     → types.struct_tagged kinds (lines_at kinds n) (at_number at) tag p (mark_at kinds p) ≡ Gives (Plays Types (specifier_node.StructTag tag at)) p
 struct_tag_alone kinds n at tag p f = tagged_alone kinds n at tag p (mark_at kinds p) f
-
-enum_opens : (kinds : List TokenKind) (n : ℕ) (p : Place) (m : Mark) → bare m ≡ mark.CurlyOpens
-    → types.enum_by kinds (constants_at kinds n) p m ≡ types.enum_body kinds (constants_at kinds n) (at_number p.at) None (next p)
-enum_opens kinds n p spec.CurlyOpens e = refl
-enum_opens kinds n p _ e = cc
 
 enum_names : (kinds : List TokenKind) (n : ℕ) (p : Place) (m : Mark) → (bare m ≡ mark.CurlyOpens → ⊥)
     → types.enum_by kinds (constants_at kinds n) p m ≡ and_then (name_of (next p) m) (λ tag q. types.enum_tagged kinds (constants_at kinds n) (at_number p.at) tag q (mark_at kinds q))
@@ -159,21 +88,10 @@ enum_names kinds n p spec.CurlyOpens f = absurd (f refl)
 enum_names kinds n p (spec.Name tag) f = refl
 enum_names kinds n p _ f = refl
 
-enum_tagged_body : (kinds : List TokenKind) (n at : ℕ) (tag : List ℕ) (p : Place) (m : Mark) → bare m ≡ mark.CurlyOpens
-    → types.enum_tagged kinds (constants_at kinds n) (at_number at) tag p m ≡ types.enum_body kinds (constants_at kinds n) (at_number at) (Some tag) p
-enum_tagged_body kinds n at tag p spec.CurlyOpens e = refl
-enum_tagged_body kinds n at tag p _ e = cc
-
 enum_tagged_alone : (kinds : List TokenKind) (n at : ℕ) (tag : List ℕ) (p : Place) (m : Mark) → (bare m ≡ mark.CurlyOpens → ⊥)
     → types.enum_tagged kinds (constants_at kinds n) (at_number at) tag p m ≡ Gives (Plays Types (specifier_node.EnumTag tag at)) p
 enum_tagged_alone kinds n at tag p spec.CurlyOpens f = absurd (f refl)
 enum_tagged_alone kinds n at tag p _ f = refl
-
-pub enum_plain : (kinds : List TokenKind) (n at : ℕ) (p q : Place) → at ≡ p.at → q ≡ next p → bare (mark_at kinds q) ≡ mark.CurlyOpens
-    → enumeration kinds n p ≡ types.enum_body kinds (constants_at kinds n) (at_number at) None q
-enum_plain kinds n at p q a e h =
-    enum_opens kinds n p (mark_at kinds (next p)) (ap (λ t. bare (mark_at kinds t)) (sym e) ∙ h)
-    ∙ (ap (λ t. types.enum_body kinds (constants_at kinds n) (at_number t) None (next p)) (sym a) ∙ ap (types.enum_body kinds (constants_at kinds n) (at_number at) None) (sym e))
 
 pub enum_named : (kinds : List TokenKind) (n at : ℕ) (p q : Place) → at ≡ p.at → q ≡ next p → (bare (mark_at kinds q) ≡ mark.CurlyOpens → ⊥)
     → enumeration kinds n p ≡ and_then (name_read kinds q) (λ tag r. types.enum_tagged kinds (constants_at kinds n) (at_number at) tag r (mark_at kinds r))
@@ -183,30 +101,11 @@ enum_named kinds n at p q a e h =
     ∙ (ap (λ t. and_then (name_of t (mark_at kinds t)) (λ tag r. types.enum_tagged kinds (constants_at kinds n) (at_number at) tag r (mark_at kinds r))) (sym e)
     ∙ ap (λ o. and_then o (λ tag r. types.enum_tagged kinds (constants_at kinds n) (at_number at) tag r (mark_at kinds r))) (sym (name_marked kinds q))))
 
-pub enum_tag_body : (kinds : List TokenKind) (n at : ℕ) (tag : List ℕ) (p : Place) → bare (mark_at kinds p) ≡ mark.CurlyOpens
-    → types.enum_tagged kinds (constants_at kinds n) (at_number at) tag p (mark_at kinds p) ≡ types.enum_body kinds (constants_at kinds n) (at_number at) (Some tag) p
-enum_tag_body kinds n at tag p e = enum_tagged_body kinds n at tag p (mark_at kinds p) e
-
 pub enum_tag_alone : (kinds : List TokenKind) (n at : ℕ) (tag : List ℕ) (p : Place) → (bare (mark_at kinds p) ≡ mark.CurlyOpens → ⊥)
     → types.enum_tagged kinds (constants_at kinds n) (at_number at) tag p (mark_at kinds p) ≡ Gives (Plays Types (specifier_node.EnumTag tag at)) p
 enum_tag_alone kinds n at tag p f = enum_tagged_alone kinds n at tag p (mark_at kinds p) f
 
 -- ---- a specifier
-
-struct_by : (kinds : List TokenKind) (n : ℕ) (typed : Bool) (p : Place) (m : Mark) → bare m ≡ mark.Structs
-    → types.specifier_by kinds (lines_at kinds n) (constants_at kinds n) typed p m ≡ structure kinds n p
-struct_by kinds n typed p spec.Structs e = refl
-struct_by kinds n typed p _ e = cc
-
-enum_by : (kinds : List TokenKind) (n : ℕ) (typed : Bool) (p : Place) (m : Mark) → bare m ≡ mark.Enums
-    → types.specifier_by kinds (lines_at kinds n) (constants_at kinds n) typed p m ≡ enumeration kinds n p
-enum_by kinds n typed p spec.Enums e = refl
-enum_by kinds n typed p _ e = cc
-
-name_by : (kinds : List TokenKind) (n : ℕ) (typed : Bool) (p : Place) (m : Mark) → bare m ≡ mark.Name
-    → types.specifier_by kinds (lines_at kinds n) (constants_at kinds n) typed p m ≡ typedef_name typed p m
-name_by kinds n typed p (spec.Name text) e = refl
-name_by kinds n typed p _ e = cc
 
 word_by : (kinds : List TokenKind) (n : ℕ) (typed : Bool) (p : Place) (m : Mark) → (bare m ≡ mark.Structs → ⊥) → (bare m ≡ mark.Enums → ⊥) → (bare m ≡ mark.Name → ⊥)
     → types.specifier_by kinds (lines_at kinds n) (constants_at kinds n) typed p m ≡ word_specifier (bare m) p
@@ -215,33 +114,11 @@ word_by kinds n typed p spec.Enums f g h = absurd (g refl)
 word_by kinds n typed p (spec.Name text) f g h = absurd (h refl)
 word_by kinds n typed p _ f g h = refl
 
-pub specifier_struct : (kinds : List TokenKind) (n : ℕ) (typed : Bool) (p : Place) → bare (mark_at kinds p) ≡ mark.Structs → specifier_at kinds n typed p ≡ structure kinds n p
-specifier_struct kinds n typed p e = struct_by kinds n typed p (mark_at kinds p) e
-
-pub specifier_enum : (kinds : List TokenKind) (n : ℕ) (typed : Bool) (p : Place) → bare (mark_at kinds p) ≡ mark.Enums → specifier_at kinds n typed p ≡ enumeration kinds n p
-specifier_enum kinds n typed p e = enum_by kinds n typed p (mark_at kinds p) e
-
-pub specifier_name : (kinds : List TokenKind) (n : ℕ) (typed : Bool) (p : Place) → bare (mark_at kinds p) ≡ mark.Name → specifier_at kinds n typed p ≡ typedef_name typed p (mark_at kinds p)
-specifier_name kinds n typed p e = name_by kinds n typed p (mark_at kinds p) e
-
 pub specifier_word : (kinds : List TokenKind) (n : ℕ) (typed : Bool) (p : Place) → (bare (mark_at kinds p) ≡ mark.Structs → ⊥) → (bare (mark_at kinds p) ≡ mark.Enums → ⊥)
     → (bare (mark_at kinds p) ≡ mark.Name → ⊥) → specifier_at kinds n typed p ≡ word_specifier (bare (mark_at kinds p)) p
 specifier_word kinds n typed p f g h = word_by kinds n typed p (mark_at kinds p) f g h
 
 -- ---- whether a further one may begin
-
-further_untyped : (p : Place) (s : Start) → is_further false p s ≡ is_start p s
-further_untyped p Word = refl
-further_untyped p (TypedefName text) = refl
-further_untyped p NoStart = refl
-
-kind_no_name : (kind : TokenKind) (p : Place) → bare (mark_of kind) ≡ mark.Name → is_further true p (start (Some kind)) ≡ false
-kind_no_name (token.Name text) p e = refl
-kind_no_name _ p e = cc
-
-token_no_name : (kind : Option TokenKind) (p : Place) → bare (spec.mark kind) ≡ mark.Name → is_further true p (start kind) ≡ false
-token_no_name (Some kind) p e = kind_no_name kind p e
-token_no_name None p e = cc
 
 kind_other : (kind : TokenKind) (p : Place) → (bare (mark_of kind) ≡ mark.Name → ⊥) → is_further true p (start (Some kind)) ≡ is_start p (start (Some kind))
 kind_other (token.Name text) p f = absurd (f refl)
@@ -250,12 +127,6 @@ kind_other _ p f = refl
 token_other : (kind : Option TokenKind) (p : Place) → (bare (spec.mark kind) ≡ mark.Name → ⊥) → is_further true p (start kind) ≡ is_start p (start kind)
 token_other (Some kind) p f = kind_other kind p f
 token_other None p f = refl
-
-pub goes_untyped : (kinds : List TokenKind) (typed : Bool) (p : Place) → typed ≡ false → goes_further kinds typed p ≡ begins_type kinds p
-goes_untyped kinds typed p e = ap (λ b. goes_further kinds b p) e ∙ further_untyped p (start (kind_at kinds p))
-
-pub goes_no_name : (kinds : List TokenKind) (typed : Bool) (p : Place) → typed ≡ true → bare (mark_at kinds p) ≡ mark.Name → goes_further kinds typed p ≡ false
-goes_no_name kinds typed p e f = ap (λ b. goes_further kinds b p) e ∙ token_no_name (kind_at kinds p) p f
 
 pub goes_other : (kinds : List TokenKind) (typed : Bool) (p : Place) → typed ≡ true → (bare (mark_at kinds p) ≡ mark.Name → ⊥) → goes_further kinds typed p ≡ begins_type kinds p
 goes_other kinds typed p e f = ap (λ b. goes_further kinds b p) e ∙ token_other (kind_at kinds p) p f
@@ -270,10 +141,6 @@ either false b = b
 abbrev pub specified_after : List Specifier → Bool → Outcome Specified → Outcome Specified
 specified_after found defines (Gives (Specifies further list) q) = Gives (Specifies (either defines further) (found ++ list)) q
 specified_after found defines Refuses = Refuses
-
-specified_none : (o : Outcome Specified) → o ≡ specified_after [] false o
-specified_none (Gives (Specifies further list) q) = refl
-specified_none Refuses = refl
 
 either_now : (role : Role) (defines further : Bool) → either defines (defines_now role further) ≡ either (defines_now role defines) further
 either_now Defines true further = refl
@@ -324,13 +191,6 @@ unfolding behind
 further_behind kinds d n i l typed goes p q role x h k e g =
     further_step kinds d n i l typed p h k ∙ (ap (λ o. and_then o (behind kinds (further_at kinds d (n - (i + 1))) typed)) e
     ∙ ap (further_by (further_at kinds d (n - (i + 1))) (types_now typed role) role x q) g)
-
-pub further_begins : (kinds : List TokenKind) (d n i : ℕ) (p : Place) (found : List Specifier) → i ≡ 0 → found ≡ []
-    → further_at kinds d n false p ≡ specified_after found false (further_at kinds d (n - i) false p)
-further_begins kinds d n i p found h e =
-    let all : n ≡ n - i = omega arith in
-    ap (λ m. further_at kinds d m false p) all
-    ∙ (specified_none (further_at kinds d (n - i) false p) ∙ ap (λ xs. specified_after xs false (further_at kinds d (n - i) false p)) (sym e))
 
 pub further_refused : (kinds : List TokenKind) (d n i l : ℕ) (typed defines : Bool) (p : Place) (found : List Specifier) → i < n → l ≡ n - i - 1
     → decorated_specifier kinds d l typed p ≡ Refuses → specified_after found defines (further_at kinds d (n - i) typed p) ≡ Refuses
