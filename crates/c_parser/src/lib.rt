@@ -1,7 +1,14 @@
 //! The parser of C texts.
 #![tactic(auto)]
 
-pub mod laws;
+mod chains;
+mod declarations;
+mod externals;
+mod loops;
 mod nesting;
+mod parser;
+mod statements;
+mod values;
 
 pub use nesting::{first_left_out, first_too_deep};
+pub use parser::{ParseFault, parse};

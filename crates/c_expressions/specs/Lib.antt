@@ -1,0 +1,4 @@
+pub mod Reads
+pub mod Bare
+pub mod Declarators
+pub mod Specifiers

@@ -1,0 +1,249 @@
+//! What an expression begins with (C11 6.5.1, 6.5.3, 6.5.4).
+
+ghost use Rattle.std.specs.Prelude.{◌≡◌, ◌≤◌, ◌<◌, ◌+◌, IfOk, IsTrue};
+ghost use Rattle.c_tree.specs.Places.{next};
+ghost use Rattle.c_tree.specs.SpellsText.{kinds_of};
+ghost use Rattle.c_tree.specs.declared.expression.Expression.TheVariants as tree;
+ghost use Rattle.c_grammar.specs.Kinds.{kind_at, prefix, prefix_of, begins_type, Names, Constants, Texts, StepsFirst, Operates};
+ghost use Rattle.c_grammar.specs.Reader as spec;
+ghost use Rattle.c_grammar.specs.Readers as readers;
+ghost use Rattle.c_expressions.specs.Reads.{Reads, operand, IsNested, opens_type, closed_expression, closed_type, grouped, cast, sized_type, sized_operand};
+
+use crate::fault::{Fault, refuse};
+use crate::grammar::Grammar;
+use c_grammar::{CAST, POSTFIX, UNARY};
+use crate::parts::{Perhaps, Specified};
+use crate::tokens::{close_round, is_start};
+use c_model::{Token, TokenKind};
+use c_scopes::Cursor;
+use c_tree::{Expression, Step, TypeName, UnaryOperator};
+use kv_base::{Bytes, Copied};
+use kv_num::IntType;
+use sqlite_items::Boxed;
+use std::alloc::Global;
+
+impl<
+    't,
+    R: Fn(Global, &[Token], usize, u8, &mut Cursor) -> Result<Expression, Fault>,
+    S: Fn(Global, &[Token], usize, &mut Cursor) -> Result<Specified, Fault>,
+    P: Fn(Global, &[Token], usize, &mut Cursor) -> Result<Perhaps, Fault>,
+> Grammar<'t, R, S, P>
+{
+    /// An expression with the `)` behind it.
+    #[tactic(auto, using(crate::proofs::Single::round_then))]
+    fn closed_expression(&self, place: &mut Cursor) -> Result<Expression, Fault>
+        requires nested { IsNested self.now.depth (R.pre self.now.read) (R.post self.now.read) (S.pre self.now.specifiers) (S.post self.now.specifiers) (P.pre self.now.perhaps) (P.post self.now.perhaps) }
+        ensures { Reads (closed_expression (kinds_of self.now.tokens.now) self.now.depth place.old) result place.new }
+    {
+        let inner = self.read(self.depth, 0, place)?;
+        close_round(self.tokens, place)?;
+        Ok(inner)
+    }
+
+    /// A type name with the `)` behind it.
+    #[tactic(auto, using(crate::proofs::Single::round_then))]
+    fn closed_type(&self, place: &mut Cursor) -> Result<TypeName, Fault>
+        requires nested { IsNested self.now.depth (R.pre self.now.read) (R.post self.now.read) (S.pre self.now.specifiers) (S.post self.now.specifiers) (P.pre self.now.perhaps) (P.post self.now.perhaps) }
+        ensures { Reads (closed_type (kinds_of self.now.tokens.now) self.now.depth place.old) result place.new }
+    {
+        let named = self.type_name(place)?;
+        close_round(self.tokens, place)?;
+        Ok(named)
+    }
+
+    fn named(&self, least: u8, text: &Bytes, place: &mut Cursor) -> Result<Expression, Fault>
+        requires nested { IsNested self.now.depth (R.pre self.now.read) (R.post self.now.read) (S.pre self.now.specifiers) (S.post self.now.specifiers) (P.pre self.now.perhaps) (P.post self.now.perhaps) }
+        requires here { place.old.at < usize.MAX }
+        ensures { Reads (operand (kinds_of self.now.tokens.now) self.now.depth least place.old (Names text.now)) result place.new }
+    {
+        if place.names_type(text.as_slice()) {
+            return Err(refuse(place));
+        }
+        let at = place.at();
+        let name = text.copy(self.alloc)?;
+        place.skip();
+        self.more(POSTFIX, least, Expression::Name { name, at }, place)
+    }
+
+    fn constant(
+        &self,
+        least: u8,
+        kind: IntType,
+        value: i128,
+        place: &mut Cursor,
+    ) -> Result<Expression, Fault>
+        requires nested { IsNested self.now.depth (R.pre self.now.read) (R.post self.now.read) (S.pre self.now.specifiers) (S.post self.now.specifiers) (P.pre self.now.perhaps) (P.post self.now.perhaps) }
+        requires here { place.old.at < usize.MAX }
+        ensures { Reads (operand (kinds_of self.now.tokens.now) self.now.depth least place.old (Constants kind value)) result place.new }
+    {
+        let at = place.at();
+        place.skip();
+        self.more(POSTFIX, least, Expression::Constant { kind, value, at }, place)
+    }
+
+    fn text(&self, least: u8, place: &mut Cursor) -> Result<Expression, Fault>
+        requires nested { IsNested self.now.depth (R.pre self.now.read) (R.post self.now.read) (S.pre self.now.specifiers) (S.post self.now.specifiers) (P.pre self.now.perhaps) (P.post self.now.perhaps) }
+        requires here { place.old.at < usize.MAX }
+        ensures { Reads (operand (kinds_of self.now.tokens.now) self.now.depth least place.old Texts) result place.new }
+    {
+        let at = place.at();
+        place.skip();
+        self.more(POSTFIX, least, Expression::Text { at }, place)
+    }
+
+    fn stepped_first(&self, least: u8, step: Step, place: &mut Cursor) -> Result<Expression, Fault>
+        requires nested { IsNested self.now.depth (R.pre self.now.read) (R.post self.now.read) (S.pre self.now.specifiers) (S.post self.now.specifiers) (P.pre self.now.perhaps) (P.post self.now.perhaps) }
+        requires here { place.old.at < usize.MAX }
+        ensures { Reads (operand (kinds_of self.now.tokens.now) self.now.depth least place.old (StepsFirst step)) result place.new }
+    {
+        let at = place.at();
+        place.skip();
+        let operand = Boxed::new(self.alloc, self.read(self.depth, UNARY, place)?)?;
+        self.more(UNARY, least, Expression::Prefix { step, operand, at }, place)
+    }
+
+    fn operated(
+        &self,
+        least: u8,
+        operator: UnaryOperator,
+        place: &mut Cursor,
+    ) -> Result<Expression, Fault>
+        requires nested { IsNested self.now.depth (R.pre self.now.read) (R.post self.now.read) (S.pre self.now.specifiers) (S.post self.now.specifiers) (P.pre self.now.perhaps) (P.post self.now.perhaps) }
+        requires here { place.old.at < usize.MAX }
+        ensures { Reads (operand (kinds_of self.now.tokens.now) self.now.depth least place.old (Operates operator)) result place.new }
+    {
+        let at = place.at();
+        place.skip();
+        let operand = Boxed::new(self.alloc, self.read(self.depth, CAST, place)?)?;
+        self.more(UNARY, least, Expression::Unary { operator, operand, at }, place)
+    }
+
+    /// `( expression )`, behind the `(`.
+    fn grouped(&self, least: u8, place: &mut Cursor) -> Result<Expression, Fault>
+        requires nested { IsNested self.now.depth (R.pre self.now.read) (R.post self.now.read) (S.pre self.now.specifiers) (S.post self.now.specifiers) (P.pre self.now.perhaps) (P.post self.now.perhaps) }
+        ensures { Reads (grouped (kinds_of self.now.tokens.now) self.now.depth least place.old) result place.new }
+    {
+        let inner = self.closed_expression(place)?;
+        self.more(POSTFIX, least, inner, place)
+    }
+
+    /// `( type-name ) operand`, behind the `(`, which stands at `at`.
+    fn cast(&self, least: u8, at: usize, place: &mut Cursor) -> Result<Expression, Fault>
+        requires nested { IsNested self.now.depth (R.pre self.now.read) (R.post self.now.read) (S.pre self.now.specifiers) (S.post self.now.specifiers) (P.pre self.now.perhaps) (P.post self.now.perhaps) }
+        ensures { Reads (cast (kinds_of self.now.tokens.now) self.now.depth least at place.old) result place.new }
+    {
+        let type_name = Boxed::new(self.alloc, self.closed_type(place)?)?;
+        let operand = Boxed::new(self.alloc, self.read(self.depth, CAST, place)?)?;
+        let whole = Expression::Cast {
+            type_name,
+            operand,
+            at,
+        };
+        self.more(CAST, least, whole, place)
+    }
+
+    /// Whether a type name may begin here.
+    fn begins_type(&self, place: &Cursor) -> bool
+        ensures { result ≡ begins_type (kinds_of self.now.tokens.now) place.now }
+    {
+        is_start(place.kind(self.tokens), place)
+    }
+
+    /// What begins with a `(`.
+    #[tactic(auto, using(crate::proofs::Bracketed::bracketed_group, crate::proofs::Bracketed::bracketed_cast, crate::proofs::Bracketed::bracketed_none))]
+    fn bracketed(&self, least: u8, place: &mut Cursor) -> Result<Expression, Fault>
+        requires nested { IsNested self.now.depth (R.pre self.now.read) (R.post self.now.read) (S.pre self.now.specifiers) (S.post self.now.specifiers) (P.pre self.now.perhaps) (P.post self.now.perhaps) }
+        requires here { place.old.at < usize.MAX }
+        ensures { let kinds = kinds_of self.now.tokens.now in let n = self.now.depth in Reads (spec.bracketed kinds (readers.read kinds n) (readers.types kinds n) (readers.more kinds n) least place.old (begins_type kinds (next place.old))) result place.new }
+    {
+        let at = place.at();
+        place.skip();
+        if !self.begins_type(place) {
+            return self.grouped(least, place);
+        }
+        if least > CAST {
+            return Err(refuse(place));
+        }
+        self.cast(least, at, place)
+    }
+
+    /// Whether a `(` comes next and a type name behind it.
+    fn opens_type(&self, place: &Cursor) -> bool
+        ensures value { result ≡ opens_type (kinds_of self.now.tokens.now) place.now }
+        ensures within { IsTrue result → place.now.at < usize.MAX }
+    {
+        match place.kind(self.tokens) {
+            Some(TokenKind::LeftParenthesis) => is_start(place.second(self.tokens), place),
+            _ => false,
+        }
+    }
+
+    /// `sizeof ( type-name )`, behind the `(`; `sizeof` stands at `at`.
+    fn sized_type(&self, least: u8, at: usize, place: &mut Cursor) -> Result<Expression, Fault>
+        requires nested { IsNested self.now.depth (R.pre self.now.read) (R.post self.now.read) (S.pre self.now.specifiers) (S.post self.now.specifiers) (P.pre self.now.perhaps) (P.post self.now.perhaps) }
+        ensures { Reads (sized_type (kinds_of self.now.tokens.now) self.now.depth least at place.old) result place.new }
+    {
+        let type_name = Boxed::new(self.alloc, self.closed_type(place)?)?;
+        self.more(UNARY, least, Expression::SizeofType { type_name, at }, place)
+    }
+
+    /// `sizeof operand`, behind `sizeof`, which stands at `at`.
+    fn sized_operand(&self, least: u8, at: usize, place: &mut Cursor) -> Result<Expression, Fault>
+        requires nested { IsNested self.now.depth (R.pre self.now.read) (R.post self.now.read) (S.pre self.now.specifiers) (S.post self.now.specifiers) (P.pre self.now.perhaps) (P.post self.now.perhaps) }
+        ensures { Reads (sized_operand (kinds_of self.now.tokens.now) self.now.depth least at place.old) result place.new }
+    {
+        let operand = Boxed::new(self.alloc, self.read(self.depth, UNARY, place)?)?;
+        self.more(UNARY, least, Expression::SizeofExpression { operand, at }, place)
+    }
+
+    /// What begins with `sizeof`.
+    #[tactic(auto, using(crate::proofs::Bracketed::sized_as_type, crate::proofs::Bracketed::sized_as_operand))]
+    fn sized(&self, least: u8, place: &mut Cursor) -> Result<Expression, Fault>
+        requires nested { IsNested self.now.depth (R.pre self.now.read) (R.post self.now.read) (S.pre self.now.specifiers) (S.post self.now.specifiers) (P.pre self.now.perhaps) (P.post self.now.perhaps) }
+        requires here { place.old.at < usize.MAX }
+        ensures { let kinds = kinds_of self.now.tokens.now in let n = self.now.depth in Reads (spec.sized kinds (readers.read kinds n) (readers.types kinds n) (readers.more kinds n) least place.old (prefix (kind_at kinds (next place.old)))) result place.new }
+    {
+        let at = place.at();
+        place.skip();
+        if self.opens_type(place) {
+            place.skip();
+            return self.sized_type(least, at, place);
+        }
+        self.sized_operand(least, at, place)
+    }
+
+    /// What begins with a token of this kind.
+    fn begun(&self, least: u8, kind: &TokenKind, place: &mut Cursor) -> Result<Expression, Fault>
+        requires nested { IsNested self.now.depth (R.pre self.now.read) (R.post self.now.read) (S.pre self.now.specifiers) (S.post self.now.specifiers) (P.pre self.now.perhaps) (P.post self.now.perhaps) }
+        requires here { place.old.at < usize.MAX }
+        ensures { Reads (operand (kinds_of self.now.tokens.now) self.now.depth least place.old (prefix_of kind.now)) result place.new }
+    {
+        match kind {
+            TokenKind::Name { text } => self.named(least, text, place),
+            TokenKind::Constant { kind, value } => self.constant(least, *kind, *value, place),
+            TokenKind::Text => self.text(least, place),
+            TokenKind::LeftParenthesis => self.bracketed(least, place),
+            TokenKind::Increment => self.stepped_first(least, Step::Increment, place),
+            TokenKind::Decrement => self.stepped_first(least, Step::Decrement, place),
+            TokenKind::Ampersand => self.operated(least, UnaryOperator::Address, place),
+            TokenKind::Star => self.operated(least, UnaryOperator::Indirection, place),
+            TokenKind::Plus => self.operated(least, UnaryOperator::Plus, place),
+            TokenKind::Minus => self.operated(least, UnaryOperator::Minus, place),
+            TokenKind::Tilde => self.operated(least, UnaryOperator::Complement, place),
+            TokenKind::Exclamation => self.operated(least, UnaryOperator::Not, place),
+            TokenKind::Sizeof => self.sized(least, place),
+            _ => Err(refuse(place)),
+        }
+    }
+
+    /// An expression of a level or above.
+    pub fn operand(&self, least: u8, place: &mut Cursor) -> Result<Expression, Fault>
+        requires nested { IsNested self.now.depth (R.pre self.now.read) (R.post self.now.read) (S.pre self.now.specifiers) (S.post self.now.specifiers) (P.pre self.now.perhaps) (P.post self.now.perhaps) }
+        ensures { Reads (operand (kinds_of self.now.tokens.now) self.now.depth least place.old (prefix (kind_at (kinds_of self.now.tokens.now) place.old))) result place.new }
+    {
+        match place.kind(self.tokens) {
+            Some(kind) => self.begun(least, kind, place),
+            None => Err(refuse(place)),
+        }
+    }
+}

@@ -1,0 +1,208 @@
+-- Lists that are read one by one.
+use Rattle.std.proofs.Common.{◌≡◌, List, [], ◌∷◌, ◌++◌, ℕ, zero, suc, ◌+◌, ◌-◌, ◌<◌, refl, ap, ◌∙◌, sym, subst, append_assoc, arith}
+use Rattle.std.specs.Prelude.{Result, Ok, Err}
+use Rattle.c_model.specs.declared.token.TokenKind.{TokenKind}
+use Rattle.c_tree.specs.Places.{Place, next}
+use Rattle.c_expressions.specs.declared.fault.Fault.{Fault}
+use Rattle.c_expressions.specs.declared.fault.Fault.TheVariants.{Syntax, NoMemory}
+use Rattle.c_grammar.specs.Marks as mark
+use Rattle.c_grammar.specs.Marks.{Mark, mark_at}
+use Rattle.c_expressions.specs.declared.marks.Mark.TheVariants as sign
+use Rattle.c_expressions.specs.Bare.{Mark, bare, bare_at, Takes}
+use Rattle.c_grammar.specs.Reader.{Outcome, Gives, Refuses, and_then}
+use Rattle.c_expressions.specs.Reads.{Reads}
+use Rattle.c_grammar.specs.ReadTypes.{ListOf, separated, separated_after, listed, listed_after, listed_comma}
+
+refused_by : {A B : Type 0} (o : Outcome A) (whole : Outcome B) (fault : Fault) (q r : Place) → (o ≡ Refuses → whole ≡ Refuses)
+    → Reads o (Err fault) q → Reads whole (Err fault) r
+refused_by o whole (Syntax at) q r f h = f h
+refused_by o whole NoMemory q r f h = tt
+
+-- what gives up where a part does
+pub refused : {A B : Type 0} (o : Outcome A) (whole : Outcome B) (fault : Fault) (result : Result B Fault) (q r : Place) → result ≡ Err fault
+    → (o ≡ Refuses → whole ≡ Refuses) → Reads o (Err fault) q → Reads whole result r
+refused o whole fault result q r e f h = subst (λ x. Reads whole x r) (sym e) (refused_by o whole fault q r f h)
+
+expected_by : {B : Type 0} (kinds : List TokenKind) (wanted : Mark) (old new : Place) (whole : Outcome B) (fault : Fault) (r : Place)
+    → ((bare_at kinds old ≡ wanted → ⊥) → whole ≡ Refuses) → Takes kinds wanted old (Err fault) new → Reads whole (Err fault) r
+expected_by kinds wanted old new whole (Syntax at) r f h = f h
+expected_by kinds wanted old new whole NoMemory r f h = tt
+
+-- what gives up where a token is missing
+pub expected : {B : Type 0} (kinds : List TokenKind) (wanted : Mark) (old new : Place) (whole : Outcome B) (fault : Fault) (result : Result B Fault) (r : Place)
+    → result ≡ Err fault → ((bare_at kinds old ≡ wanted → ⊥) → whole ≡ Refuses) → Takes kinds wanted old (Err fault) new → Reads whole result r
+expected kinds wanted old new whole fault result r e f h = subst (λ x. Reads whole x r) (sym e) (expected_by kinds wanted old new whole fault r f h)
+
+-- these, and then what is read
+abbrev pub prefixed : {A : Type 0} → List A → Outcome (List A) → Outcome (List A)
+prefixed xs (Gives ys q) = Gives (xs ++ ys) q
+prefixed xs Refuses = Refuses
+
+pub prefixed_none : {A : Type 0} (o : Outcome (List A)) → o ≡ prefixed [] o
+prefixed_none (Gives ys q) = refl
+prefixed_none Refuses = refl
+
+pub append_none : {A : Type 0} (xs : List A) → xs ++ [] ≡ xs
+append_none [] = refl
+append_none (x ∷ xs) = ap (λ ys. x ∷ ys) (append_none xs)
+
+pub prefixed_more : {A : Type 0} (xs : List A) (x : A) (o : Outcome (List A)) → prefixed xs (and_then o (λ ys r. Gives (x ∷ ys) r)) ≡ prefixed (xs ++ x ∷ []) o
+prefixed_more xs x (Gives ys q) = ap (λ zs. Gives zs q) (sym (append_assoc xs (x ∷ []) ys))
+prefixed_more xs x Refuses = refl
+
+pub one_further : (n i : ℕ) → i < n → n - i ≡ suc (n - (i + 1))
+one_further n i h = omega arith
+
+-- ---- with a comma between each two, and perhaps at the end
+
+listed_on : {A : Type 0} (kinds : List TokenKind) (one : Place → Outcome A) (n : ℕ) (p : Place)
+    → listed kinds one (suc n) p ≡ and_then (one p) (λ x q. listed_after kinds (listed kinds one n) x q (mark_at kinds q))
+unfolding listed
+listed_on kinds one n p = refl
+
+listed_zero : {A : Type 0} (kinds : List TokenKind) (one : Place → Outcome A) (p : Place) → listed kinds one zero p ≡ Refuses
+unfolding listed
+listed_zero kinds one p = refl
+
+after_other : {A : Type 0} (kinds : List TokenKind) (more : ListOf A) (x : A) (q : Place) (m : Mark) → (bare m ≡ sign.Comma → ⊥)
+    → listed_after kinds more x q m ≡ Gives (x ∷ []) q
+after_other kinds more x q mark.Comma h = absurd (h refl)
+after_other kinds more x q _ h = refl
+
+after_comma : {A : Type 0} (kinds : List TokenKind) (more : ListOf A) (x : A) (q : Place) (m : Mark) → bare m ≡ sign.Comma
+    → listed_after kinds more x q m ≡ listed_comma more x (next q) (mark_at kinds (next q))
+after_comma kinds more x q mark.Comma h = refl
+after_comma kinds more x q _ h = cc
+
+comma_closes : {A : Type 0} (more : ListOf A) (x : A) (q : Place) (m : Mark) → bare m ≡ sign.CurlyCloses → listed_comma more x q m ≡ Gives (x ∷ []) q
+comma_closes more x q mark.CurlyCloses h = refl
+comma_closes more x q _ h = cc
+
+comma_goes_on : {A : Type 0} (more : ListOf A) (x : A) (q : Place) (m : Mark) → (bare m ≡ sign.CurlyCloses → ⊥)
+    → listed_comma more x q m ≡ and_then (more q) (λ xs r. Gives (x ∷ xs) r)
+comma_goes_on more x q mark.CurlyCloses h = absurd (h refl)
+comma_goes_on more x q _ h = refl
+
+listed_one : {A : Type 0} (kinds : List TokenKind) (one : Place → Outcome A) (n i : ℕ) (p : Place) (o : Outcome A) → i < n → one p ≡ o
+    → listed kinds one (n - i) p ≡ and_then o (λ x q. listed_after kinds (listed kinds one (n - (i + 1))) x q (mark_at kinds q))
+listed_one kinds one n i p o h e =
+    ap (λ m. listed kinds one m p) (one_further n i h) ∙ listed_on kinds one (n - (i + 1)) p
+    ∙ ap (λ o. and_then o (λ x q. listed_after kinds (listed kinds one (n - (i + 1))) x q (mark_at kinds q))) e
+
+pub listed_ends : {A : Type 0} (kinds : List TokenKind) (one : Place → Outcome A) (n i : ℕ) (p : Place) (whole : Outcome (List A)) (xs : List A)
+    → whole ≡ prefixed xs (listed kinds one (n - i) p) → n ≡ i → whole ≡ Refuses
+listed_ends kinds one n i p whole xs e h =
+    let z : n - i ≡ zero = omega arith in
+    e ∙ ap (λ m. prefixed xs (listed kinds one m p)) z ∙ ap (prefixed xs) (listed_zero kinds one p)
+
+pub listed_fails : {A : Type 0} (kinds : List TokenKind) (one : Place → Outcome A) (n i : ℕ) (p : Place) (whole : Outcome (List A)) (xs : List A)
+    → whole ≡ prefixed xs (listed kinds one (n - i) p) → i < n → one p ≡ Refuses → whole ≡ Refuses
+listed_fails kinds one n i p whole xs e h f = e ∙ ap (prefixed xs) (listed_one kinds one n i p Refuses h f)
+
+pub listed_last : {A : Type 0} (kinds : List TokenKind) (one : Place → Outcome A) (n i : ℕ) (p q : Place) (whole : Outcome (List A)) (xs ys : List A) (x : A)
+    → whole ≡ prefixed xs (listed kinds one (n - i) p) → i < n → one p ≡ Gives x q → (bare_at kinds q ≡ sign.Comma → ⊥) → ys ≡ xs ++ x ∷ [] → whole ≡ Gives ys q
+listed_last kinds one n i p q whole xs ys x e h f g d =
+    e ∙ ap (prefixed xs) (listed_one kinds one n i p (Gives x q) h f ∙ after_other kinds (listed kinds one (n - (i + 1))) x q (mark_at kinds q) g)
+    ∙ ap (λ zs. Gives zs q) (sym d)
+
+pub listed_comma_last : {A : Type 0} (kinds : List TokenKind) (one : Place → Outcome A) (n i : ℕ) (p q r : Place) (whole : Outcome (List A)) (xs ys : List A) (x : A)
+    → whole ≡ prefixed xs (listed kinds one (n - i) p) → i < n → one p ≡ Gives x q → bare_at kinds q ≡ sign.Comma → r ≡ next q
+    → bare_at kinds r ≡ sign.CurlyCloses → ys ≡ xs ++ x ∷ [] → whole ≡ Gives ys r
+listed_comma_last kinds one n i p q r whole xs ys x e h f g b k d =
+    e ∙ ap (prefixed xs) (listed_one kinds one n i p (Gives x q) h f ∙ after_comma kinds (listed kinds one (n - (i + 1))) x q (mark_at kinds q) g
+    ∙ comma_closes (listed kinds one (n - (i + 1))) x (next q) (mark_at kinds (next q)) (subst (λ s. bare_at kinds s ≡ sign.CurlyCloses) b k))
+    ∙ ap (λ zs. Gives zs (next q)) (sym d) ∙ ap (λ s. Gives ys s) (sym b)
+
+pub listed_goes_on : {A : Type 0} (kinds : List TokenKind) (one : Place → Outcome A) (n i : ℕ) (p q r : Place) (whole : Outcome (List A)) (xs ys : List A) (x : A)
+    → whole ≡ prefixed xs (listed kinds one (n - i) p) → i < n → one p ≡ Gives x q → bare_at kinds q ≡ sign.Comma → r ≡ next q
+    → (bare_at kinds r ≡ sign.CurlyCloses → ⊥) → ys ≡ xs ++ x ∷ [] → whole ≡ prefixed ys (listed kinds one (n - (i + 1)) r)
+listed_goes_on kinds one n i p q r whole xs ys x e h f g b k d =
+    e ∙ ap (prefixed xs) (listed_one kinds one n i p (Gives x q) h f ∙ after_comma kinds (listed kinds one (n - (i + 1))) x q (mark_at kinds q) g
+    ∙ comma_goes_on (listed kinds one (n - (i + 1))) x (next q) (mark_at kinds (next q)) (subst (λ s. bare_at kinds s ≡ sign.CurlyCloses → ⊥) b k))
+    ∙ prefixed_more xs x (listed kinds one (n - (i + 1)) (next q))
+    ∙ ap (λ zs. prefixed zs (listed kinds one (n - (i + 1)) (next q))) (sym d) ∙ ap (λ s. prefixed ys (listed kinds one (n - (i + 1)) s)) (sym b)
+
+-- ---- with a comma between each two
+
+-- those behind the first
+abbrev pub further_by : {A : Type 0} → ListOf A → Place → Mark → Outcome (List A)
+further_by more p mark.Comma = more (next p)
+further_by more p _ = Gives [] p
+
+prefixed_by : {A : Type 0} (xs : List A) (x : A) (more : ListOf A) (p : Place) (m : Mark)
+    → prefixed xs (separated_after more x p m) ≡ prefixed (xs ++ x ∷ []) (further_by more p m)
+prefixed_by xs x more p mark.Comma = prefixed_more xs x (more (next p))
+prefixed_by xs x more p _ = ap (λ zs. Gives zs p) (sym (append_none (xs ++ x ∷ [])))
+
+pub after_first : {A : Type 0} (more : ListOf A) (x : A) (p : Place) (m : Mark) → separated_after more x p m ≡ prefixed (x ∷ []) (further_by more p m)
+after_first more x p m = prefixed_none (separated_after more x p m) ∙ prefixed_by [] x more p m
+
+separated_on : {A : Type 0} (kinds : List TokenKind) (one : Place → Outcome A) (n : ℕ) (p : Place)
+    → separated kinds one (suc n) p ≡ and_then (one p) (λ x q. separated_after (separated kinds one n) x q (mark_at kinds q))
+unfolding separated
+separated_on kinds one n p = refl
+
+separated_zero : {A : Type 0} (kinds : List TokenKind) (one : Place → Outcome A) (p : Place) → separated kinds one zero p ≡ Refuses
+unfolding separated
+separated_zero kinds one p = refl
+
+further_other : {A : Type 0} (more : ListOf A) (p : Place) (m : Mark) → (bare m ≡ sign.Comma → ⊥) → further_by more p m ≡ Gives [] p
+further_other more p mark.Comma h = absurd (h refl)
+further_other more p _ h = refl
+
+further_comma : {A : Type 0} (more : ListOf A) (p : Place) (m : Mark) → bare m ≡ sign.Comma → further_by more p m ≡ more (next p)
+further_comma more p mark.Comma h = refl
+further_comma more p _ h = cc
+
+-- the further ones at a place
+abbrev pub further_at : {A : Type 0} → List TokenKind → (Place → Outcome A) → ℕ → ListOf A
+further_at kinds one n p = further_by (separated kinds one n) p (mark_at kinds p)
+
+further_on : {A : Type 0} (kinds : List TokenKind) (one : Place → Outcome A) (n i : ℕ) (p : Place) (o : Outcome A) → i < n → bare_at kinds p ≡ sign.Comma
+    → one (next p) ≡ o → further_at kinds one (n - i) p ≡ and_then o (λ x q. separated_after (separated kinds one (n - (i + 1))) x q (mark_at kinds q))
+further_on kinds one n i p o h c e =
+    further_comma (separated kinds one (n - i)) p (mark_at kinds p) c ∙ ap (λ m. separated kinds one m (next p)) (one_further n i h)
+    ∙ separated_on kinds one (n - (i + 1)) (next p) ∙ ap (λ o. and_then o (λ x q. separated_after (separated kinds one (n - (i + 1))) x q (mark_at kinds q))) e
+
+pub further_stops : {A : Type 0} (kinds : List TokenKind) (one : Place → Outcome A) (n : ℕ) (p : Place) (whole : Outcome (List A)) (xs : List A)
+    → whole ≡ prefixed xs (further_at kinds one n p) → (bare_at kinds p ≡ sign.Comma → ⊥) → whole ≡ Gives xs p
+further_stops kinds one n p whole xs e h =
+    e ∙ ap (prefixed xs) (further_other (separated kinds one n) p (mark_at kinds p) h) ∙ ap (λ zs. Gives zs p) (append_none xs)
+
+pub further_ends : {A : Type 0} (kinds : List TokenKind) (one : Place → Outcome A) (n i : ℕ) (p : Place) (whole : Outcome (List A)) (xs : List A)
+    → whole ≡ prefixed xs (further_at kinds one (n - i) p) → n ≡ i → bare_at kinds p ≡ sign.Comma → whole ≡ Refuses
+further_ends kinds one n i p whole xs e h c =
+    let z : n - i ≡ zero = omega arith in
+    e ∙ ap (prefixed xs) (further_comma (separated kinds one (n - i)) p (mark_at kinds p) c ∙ ap (λ m. separated kinds one m (next p)) z ∙ separated_zero kinds one (next p))
+
+pub further_fails : {A : Type 0} (kinds : List TokenKind) (one : Place → Outcome A) (n i : ℕ) (p r : Place) (whole : Outcome (List A)) (xs : List A)
+    → whole ≡ prefixed xs (further_at kinds one (n - i) p) → i < n → bare_at kinds p ≡ sign.Comma → r ≡ next p → one r ≡ Refuses → whole ≡ Refuses
+further_fails kinds one n i p r whole xs e h c b f = e ∙ ap (prefixed xs) (further_on kinds one n i p Refuses h c (ap one (sym b) ∙ f))
+
+pub further_goes_on : {A : Type 0} (kinds : List TokenKind) (one : Place → Outcome A) (n i : ℕ) (p q r : Place) (whole : Outcome (List A)) (xs ys : List A) (x : A)
+    → whole ≡ prefixed xs (further_at kinds one (n - i) p) → i < n → bare_at kinds p ≡ sign.Comma → r ≡ next p → one r ≡ Gives x q → ys ≡ xs ++ x ∷ []
+    → whole ≡ prefixed ys (further_at kinds one (n - (i + 1)) q)
+further_goes_on kinds one n i p q r whole xs ys x e h c b f d =
+    e ∙ ap (prefixed xs) (further_on kinds one n i p (Gives x q) h c (ap one (sym b) ∙ f)) ∙ prefixed_by xs x (separated kinds one (n - (i + 1))) q (mark_at kinds q)
+    ∙ ap (λ zs. prefixed zs (further_at kinds one (n - (i + 1)) q)) (sym d)
+
+pub further_begins : {A : Type 0} (kinds : List TokenKind) (one : Place → Outcome A) (n m : ℕ) (p : Place) (xs : List A) (x : A) → m ≡ n → xs ≡ x ∷ []
+    → separated_after (separated kinds one n) x p (mark_at kinds p) ≡ prefixed xs (further_at kinds one m p)
+further_begins kinds one n m p xs x h d =
+    after_first (separated kinds one n) x p (mark_at kinds p) ∙ ap (λ k. prefixed (x ∷ []) (further_at kinds one k p)) (sym h)
+    ∙ ap (λ zs. prefixed zs (further_at kinds one m p)) (sym d)
+
+pub listed_begins : {A : Type 0} (kinds : List TokenKind) (one : Place → Outcome A) (n m : ℕ) (p : Place) (xs : List A) → m ≡ n → xs ≡ []
+    → listed kinds one n p ≡ prefixed xs (listed kinds one m p)
+listed_begins kinds one n m p xs h d =
+    prefixed_none (listed kinds one n p) ∙ ap (λ k. prefixed [] (listed kinds one k p)) (sym h) ∙ ap (λ zs. prefixed zs (listed kinds one m p)) (sym d)
+
+pub separated_none : {A : Type 0} (kinds : List TokenKind) (one : Place → Outcome A) (n : ℕ) (p : Place) → n ≡ 0 → separated kinds one n p ≡ Refuses
+separated_none kinds one n p e = ap (λ m. separated kinds one m p) e ∙ separated_zero kinds one p
+
+pub separated_first : {A : Type 0} (kinds : List TokenKind) (one : Place → Outcome A) (n : ℕ) (p : Place) (o : Outcome A) → 0 < n → one p ≡ o
+    → separated kinds one n p ≡ and_then o (λ x q. separated_after (separated kinds one (n - 1)) x q (mark_at kinds q))
+separated_first kinds one n p o h e =
+    let m : n ≡ suc (n - 1) = omega arith in
+    ap (λ m. separated kinds one m p) m ∙ separated_on kinds one (n - 1) p
+    ∙ ap (λ o. and_then o (λ x q. separated_after (separated kinds one (n - 1)) x q (mark_at kinds q))) e

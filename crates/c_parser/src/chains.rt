@@ -1,0 +1,77 @@
+//! `if` (C11 6.8.4.1).
+
+ghost use Rattle.std.specs.Prelude.{◌≡◌, ◌<◌, ℕ};
+ghost use Rattle.c_tree.specs.SpellsText.{kinds_of};
+ghost use Rattle.c_grammar.specs.Readers as readers;
+ghost use Rattle.c_grammar.specs.Reader.{and_then};
+ghost use Rattle.c_grammar.specs.ReadStatements as spec;
+ghost use Rattle.c_expressions.specs.Reads.{Reads};
+ghost use Rattle.c_parser.specs.Runs.{RunsStatements, branch, leaves};
+
+use c_expressions::{Fault, refuse};
+use c_expressions::{Mark, mark_at};
+use crate::statements::Statements;
+use crate::values::test;
+use c_model::Token;
+use c_scopes::Cursor;
+use c_tree::{Branch, Statement};
+use sqlite_items::{Boxed, Items};
+use std::alloc::Global;
+
+/// Two blocks end, so many times.
+fn leave_branches(count: usize, place: &mut Cursor)
+    ensures { place.new ≡ leaves count place.old }
+{
+    for turn in 0..count {
+        let _ = turn;
+        place.leave();
+        place.leave();
+    }
+}
+
+impl<'t, S: Fn(Global, &[Token], usize, &mut Cursor) -> Result<Statement, Fault>> Statements<'t, S> {
+    /// `if (test) body`, whose two blocks stay open.
+    fn branch(&self, place: &mut Cursor) -> Result<Branch, Fault>
+        requires runs { RunsStatements self.now.depth (S.pre self.now.inner) (S.post self.now.inner) }
+        requires here { place.old.at < usize.MAX }
+        ensures { let kinds = kinds_of self.now.tokens.now in Reads (branch kinds (readers.read kinds self.now.steps) (spec.statement kinds self.now.depth) place.old) result place.new }
+    {
+        let at = place.at();
+        place.skip();
+        place.enter()?;
+        let test = test(self.alloc, self.tokens, self.steps, place)?;
+        place.enter()?;
+        let body = self.inner(place)?;
+        Ok(Branch { test, body, at })
+    }
+
+    /// `if`, `else if` and so on, and what stands after a last `else`.
+    pub fn chain(&self, place: &mut Cursor) -> Result<Statement, Fault>
+        requires runs { RunsStatements self.now.depth (S.pre self.now.inner) (S.post self.now.inner) }
+        requires here { place.old.at < usize.MAX }
+        ensures { let kinds = kinds_of self.now.tokens.now in Reads (and_then (spec.chain kinds (readers.read kinds self.now.steps) (spec.statement kinds self.now.depth) self.now.steps place.old) spec.chained) result place.new }
+    {
+        let mut branches = Items::new(self.alloc);
+        for turn in 0..self.steps {
+            let _ = turn;
+            let branch = self.branch(place)?;
+            branches.push(branch)?;
+            if mark_at(self.tokens, place) != Mark::Else {
+                leave_branches(branches.len(), place);
+                return Ok(Statement::If { branches });
+            }
+            place.skip();
+            place.leave();
+            place.enter()?;
+            if mark_at(self.tokens, place) != Mark::If {
+                let otherwise = self.inner(place)?;
+                leave_branches(branches.len(), place);
+                return Ok(Statement::IfElse {
+                    branches,
+                    otherwise: Boxed::new(self.alloc, otherwise)?,
+                });
+            }
+        }
+        Err(refuse(place))
+    }
+}

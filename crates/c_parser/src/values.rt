@@ -1,0 +1,134 @@
+//! Expressions in statements, and statements that contain none (C11 6.8).
+
+ghost use Rattle.std.specs.Prelude.{◌≡◌, ◌<◌};
+ghost use Rattle.c_tree.specs.SpellsText.{kinds_of};
+ghost use Rattle.c_grammar.specs.Marks.{mark_at};
+ghost use Rattle.c_grammar.specs.Readers as readers;
+ghost use Rattle.c_grammar.specs.ReadStatements as spec;
+ghost use Rattle.c_expressions.specs.Reads.{Reads};
+
+use crate::declarations::declaration;
+use c_expressions::Fault;
+use c_expressions::grammar;
+use c_expressions::{Mark, begins_type, mark_at, take};
+use c_model::Token;
+use c_scopes::Cursor;
+use c_tree::{Expression, ForStart, Statement};
+use std::alloc::Global;
+
+/// `( expression )`
+pub fn test(
+    alloc: Global,
+    tokens: &[Token],
+    depth: usize,
+    place: &mut Cursor,
+) -> Result<Expression, Fault>
+    ensures { let kinds = kinds_of tokens.now in Reads (spec.test kinds (readers.read kinds depth) place.old) result place.new }
+{
+    take(tokens, Mark::RoundOpens, place)?;
+    let value = grammar::read(alloc, tokens, depth, 0, place)?;
+    take(tokens, Mark::RoundCloses, place)?;
+    Ok(value)
+}
+
+/// An expression, or nothing before a `;`.
+pub fn optional(
+    alloc: Global,
+    tokens: &[Token],
+    depth: usize,
+    place: &mut Cursor,
+) -> Result<Option<Expression>, Fault>
+    ensures { let kinds = kinds_of tokens.now in Reads (spec.optional_by (readers.read kinds depth) place.old (mark_at kinds place.old)) result place.new }
+{
+    if mark_at(tokens, place) == Mark::Semicolon {
+        return Ok(None);
+    }
+    let value = grammar::read(alloc, tokens, depth, 0, place)?;
+    Ok(Some(value))
+}
+
+/// An expression, or nothing before a `)`.
+pub fn optional_step(
+    alloc: Global,
+    tokens: &[Token],
+    depth: usize,
+    place: &mut Cursor,
+) -> Result<Option<Expression>, Fault>
+    ensures { let kinds = kinds_of tokens.now in Reads (spec.optional_step_by (readers.read kinds depth) place.old (mark_at kinds place.old)) result place.new }
+{
+    if mark_at(tokens, place) == Mark::RoundCloses {
+        return Ok(None);
+    }
+    let value = grammar::read(alloc, tokens, depth, 0, place)?;
+    Ok(Some(value))
+}
+
+/// The first part of a `for` (6.8.5.3), with its `;`: an expression in up to so many steps, or a declaration in up to
+/// so many.
+pub fn start(
+    alloc: Global,
+    tokens: &[Token],
+    steps: usize,
+    depth: usize,
+    place: &mut Cursor,
+) -> Result<ForStart, Fault>
+    ensures { let kinds = kinds_of tokens.now in Reads (spec.start_by kinds (readers.read kinds steps) (spec.declaration kinds depth) place.old (mark_at kinds place.old)) result place.new }
+{
+    if mark_at(tokens, place) == Mark::Semicolon {
+        place.skip();
+        return Ok(ForStart::Nothing);
+    }
+    if begins_type(tokens, place) {
+        let declaration = declaration(alloc, tokens, depth, place)?;
+        return Ok(ForStart::Declared { declaration });
+    }
+    let value = grammar::read(alloc, tokens, steps, 0, place)?;
+    take(tokens, Mark::Semicolon, place)?;
+    Ok(ForStart::Value { value })
+}
+
+/// `expression;` (6.8.3).
+pub fn value_statement(
+    alloc: Global,
+    tokens: &[Token],
+    depth: usize,
+    place: &mut Cursor,
+) -> Result<Statement, Fault>
+    ensures { let kinds = kinds_of tokens.now in Reads (spec.value_statement kinds (readers.read kinds depth) place.old) result place.new }
+{
+    let value = grammar::read(alloc, tokens, depth, 0, place)?;
+    let at = place.at();
+    take(tokens, Mark::Semicolon, place)?;
+    Ok(Statement::Value { value, at })
+}
+
+/// `return;` or `return expression;` (6.8.6.4).
+pub fn return_statement(
+    alloc: Global,
+    tokens: &[Token],
+    depth: usize,
+    place: &mut Cursor,
+) -> Result<Statement, Fault>
+    requires here { place.old.at < usize.MAX }
+    ensures { let kinds = kinds_of tokens.now in Reads (spec.return_statement kinds (readers.read kinds depth) place.old) result place.new }
+{
+    let at = place.at();
+    place.skip();
+    let value = optional(alloc, tokens, depth, place)?;
+    take(tokens, Mark::Semicolon, place)?;
+    Ok(Statement::Return { value, at })
+}
+
+/// A word and a `;`, which are this statement (6.8.6).
+pub fn plain_statement(
+    tokens: &[Token],
+    made: Statement,
+    place: &mut Cursor,
+) -> Result<Statement, Fault>
+    requires here { place.old.at < usize.MAX }
+    ensures { Reads (spec.plain_statement (kinds_of tokens.now) made place.old) result place.new }
+{
+    place.skip();
+    take(tokens, Mark::Semicolon, place)?;
+    Ok(made)
+}
