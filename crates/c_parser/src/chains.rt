@@ -8,10 +8,9 @@ ghost use Rattle.c_grammar.specs.ReadStatements as spec;
 ghost use Rattle.c_expressions.specs.Reads.{Reads};
 ghost use Rattle.c_parser.specs.Runs.{RunsStatements, branch, leaves};
 
-use c_expressions::{Fault, refuse};
-use c_expressions::{Mark, mark_at};
 use crate::statements::Statements;
 use crate::values::test;
+use c_expressions::{Fault, Mark, mark_at, refuse};
 use c_model::Token;
 use c_scopes::Cursor;
 use c_tree::{Branch, Statement};
