@@ -23,7 +23,7 @@ use Rattle.c_grammar.specs.ReadTypes.{ListOf}
 use Rattle.c_grammar.specs.ReadStatements.{ReadsDeclaration, ReadsStatement, block, block_by, item, chain, chain_of, chain_by, else_by, first_chained, Chain, Chains, chained, test}
 use Rattle.c_grammar.specs.ReadText.{externals, externals_by, external, text}
 use Rattle.c_expressions.specs.Reads.{Reads}
-use Rattle.c_parser.specs.Runs.{branch, leaves, ReadsText}
+use Rattle.c_parser.specs.Runs.{branch, last_else, leaves, ReadsText}
 use Rattle.c_grammar.proofs.Depths.{length-kinds_of}
 use Rattle.c_parser.proofs.Prefixed.{prefixed, prefixed_none, prefixed_more, append_none, one_further}
 
@@ -233,19 +233,25 @@ chain_else_at kinds rd st n i p r s xs x o h f g b k e =
     ∙ else_other st (chain kinds rd st (n - (i + 1))) x r (mark_at kinds (next r)) (subst (λ s. bare_at kinds s ≡ mark.If → ⊥) b k)
     ∙ ap (λ o. and_then o (λ y t. Gives (Chains (x ∷ []) (Some y)) (leave (leave t)))) (ap st (sym b) ∙ e))
 
-pub chain_else : (kinds : List TokenKind) (rd : Reader) (st : ReadsStatement) (n i k : ℕ) (p r s t : Place) (whole : Outcome Chain) (xs ys : List Branch) (x : Branch) (y : Statement)
-    → whole ≡ resumed (length xs) xs (chain kinds rd st (n - i) p) → i < n → branch kinds rd st p ≡ Gives x r → bare_at kinds r ≡ mark.Else
-    → s ≡ enter (leave (next r)) → (bare_at kinds s ≡ mark.If → ⊥) → st s ≡ Gives y t → ys ≡ xs ++ x ∷ [] → k ≡ length ys
-    → and_then whole chained ≡ Gives (statement_node.IfElse ys y) (leaves k t)
-chain_else kinds rd st n i k p r s t whole xs ys x y e h f g b m c d l =
-    ap (λ o. and_then o chained) (e ∙ chain_else_at kinds rd st n i p r s xs x (Gives y t) h f g b m c)
-    ∙ ap (λ zs. Gives (statement_node.IfElse zs y) (leaves (suc (length xs)) t)) (sym d)
-    ∙ ap (λ k. Gives (statement_node.IfElse ys y) (leaves k t)) (sym (l ∙ ap length d ∙ length_more xs x))
+last_else_by : (xs : List Branch) (x : Branch) (o : Outcome Statement)
+    → and_then (resumed (length xs) xs (and_then o (λ y t. Gives (Chains (x ∷ []) (Some y)) (leave (leave t))))) chained
+        ≡ and_then o (λ y t. Gives (statement_node.IfElse (xs ++ x ∷ []) y) (leaves (length (xs ++ x ∷ [])) t))
+last_else_by xs x (Gives y t) = ap (λ k. Gives (statement_node.IfElse (xs ++ x ∷ []) y) (leaves k t)) (sym (length_more xs x))
+last_else_by xs x Refuses = refl
 
-pub chain_else_fails : (kinds : List TokenKind) (rd : Reader) (st : ReadsStatement) (n i : ℕ) (p r s : Place) (whole : Outcome Chain) (xs : List Branch) (x : Branch)
+pub chain_else : (kinds : List TokenKind) (rd : Reader) (st : ReadsStatement) (n i : ℕ) (p r s : Place) (whole : Outcome Chain) (xs ys : List Branch) (x : Branch)
     → whole ≡ resumed (length xs) xs (chain kinds rd st (n - i) p) → i < n → branch kinds rd st p ≡ Gives x r → bare_at kinds r ≡ mark.Else
-    → s ≡ enter (leave (next r)) → (bare_at kinds s ≡ mark.If → ⊥) → st s ≡ Refuses → and_then whole chained ≡ Refuses
-chain_else_fails kinds rd st n i p r s whole xs x e h f g b m c = ap (λ o. and_then o chained) (e ∙ chain_else_at kinds rd st n i p r s xs x Refuses h f g b m c)
+    → s ≡ enter (leave (next r)) → (bare_at kinds s ≡ mark.If → ⊥) → ys ≡ xs ++ x ∷ [] → and_then whole chained ≡ last_else st ys s
+chain_else kinds rd st n i p r s whole xs ys x e h f g b m d =
+    ap (λ o. and_then o chained) (e ∙ chain_else_at kinds rd st n i p r s xs x (st s) h f g b m refl) ∙ last_else_by xs x (st s)
+    ∙ ap (λ zs. last_else st zs s) (sym d)
+
+pub chain_else_read : (kinds : List TokenKind) (rd : Reader) (st : ReadsStatement) (n i : ℕ) (p r s t : Place) (whole : Outcome Chain) (xs ys : List Branch) (x : Branch)
+    (result : Result Statement Fault) → whole ≡ resumed (length xs) xs (chain kinds rd st (n - i) p) → i < n → branch kinds rd st p ≡ Gives x r
+    → bare_at kinds r ≡ mark.Else → s ≡ enter (leave (next r)) → (bare_at kinds s ≡ mark.If → ⊥) → ys ≡ xs ++ x ∷ []
+    → Reads (last_else st ys s) result t → Reads (and_then whole chained) result t
+chain_else_read kinds rd st n i p r s t whole xs ys x result e h f g b m d read =
+    subst (λ o. Reads o result t) (sym (chain_else kinds rd st n i p r s whole xs ys x e h f g b m d)) read
 
 pub chain_goes_on : (kinds : List TokenKind) (rd : Reader) (st : ReadsStatement) (n i : ℕ) (p r s : Place) (whole : Outcome Chain) (xs ys : List Branch) (x : Branch)
     → whole ≡ resumed (length xs) xs (chain kinds rd st (n - i) p) → i < n → branch kinds rd st p ≡ Gives x r → bare_at kinds r ≡ mark.Else
