@@ -1,4 +1,5 @@
 pub mod Prefixed
-pub mod SignLaws
+pub mod DeclarationEnds
 pub mod StatementKnots
 pub mod StatementLists
+pub mod WholeTexts

@@ -14,16 +14,16 @@ use Rattle.c_tree.specs.Places.{Place, next, enter, leave}
 use Rattle.c_expressions.specs.declared.fault.Fault.{Fault}
 use Rattle.c_expressions.specs.declared.fault.Fault.TheVariants.{Syntax, NoMemory}
 use Rattle.c_grammar.specs.Kinds.{kind_at}
-use Rattle.c_grammar.specs.Marks as mark
-use Rattle.c_grammar.specs.Marks.{Mark, mark_at}
-use Rattle.c_expressions.specs.declared.marks.Mark.TheVariants as sign
-use Rattle.c_expressions.specs.Bare.{Mark, bare, bare_at}
+use Rattle.c_grammar.specs.Marks as spec
+use Rattle.c_grammar.specs.Marks.{mark_at}
+use Rattle.c_expressions.specs.declared.marks.Mark.TheVariants as mark
+use Rattle.c_expressions.specs.Bare.{bare, bare_at}
 use Rattle.c_grammar.specs.Reader.{Outcome, Gives, Refuses, and_then, Reader}
 use Rattle.c_grammar.specs.ReadTypes.{ListOf}
 use Rattle.c_grammar.specs.ReadStatements.{ReadsDeclaration, ReadsStatement, block, block_by, item, chain, chain_of, chain_by, else_by, first_chained, Chain, Chains, chained, test}
 use Rattle.c_grammar.specs.ReadText.{externals, externals_by, external, text}
 use Rattle.c_expressions.specs.Reads.{Reads}
-use Rattle.c_parser.specs.Runs.{branch, leaves, ReadsText}
+use Rattle.c_parser.specs.Runs.{branch, last_else, leaves, ReadsText}
 use Rattle.c_grammar.proofs.Depths.{length-kinds_of}
 use Rattle.c_parser.proofs.Prefixed.{prefixed, prefixed_none, prefixed_more, append_none, one_further}
 
@@ -38,14 +38,14 @@ block_zero : (kinds : List TokenKind) (dn : ReadsDeclaration) (st : ReadsStateme
 unfolding block
 block_zero kinds dn st p = refl
 
-block_end : (kinds : List TokenKind) (dn : ReadsDeclaration) (st : ReadsStatement) (more : ListOf BlockItem) (p : Place) (m : Mark) → bare m ≡ sign.CurlyCloses
+block_end : (kinds : List TokenKind) (dn : ReadsDeclaration) (st : ReadsStatement) (more : ListOf BlockItem) (p : Place) (m : spec.Mark) → bare m ≡ mark.CurlyCloses
     → block_by kinds dn st more p m ≡ Gives [] p
-block_end kinds dn st more p mark.CurlyCloses h = refl
+block_end kinds dn st more p spec.CurlyCloses h = refl
 block_end kinds dn st more p _ h = cc
 
-block_item : (kinds : List TokenKind) (dn : ReadsDeclaration) (st : ReadsStatement) (more : ListOf BlockItem) (p : Place) (m : Mark) → (bare m ≡ sign.CurlyCloses → ⊥)
+block_item : (kinds : List TokenKind) (dn : ReadsDeclaration) (st : ReadsStatement) (more : ListOf BlockItem) (p : Place) (m : spec.Mark) → (bare m ≡ mark.CurlyCloses → ⊥)
     → block_by kinds dn st more p m ≡ and_then (item kinds dn st p) (λ x q. and_then (more q) (λ xs r. Gives (x ∷ xs) r))
-block_item kinds dn st more p mark.CurlyCloses h = absurd (h refl)
+block_item kinds dn st more p spec.CurlyCloses h = absurd (h refl)
 block_item kinds dn st more p _ h = refl
 
 block_one : (kinds : List TokenKind) (dn : ReadsDeclaration) (st : ReadsStatement) (n i : ℕ) (p : Place) → i < n
@@ -59,22 +59,22 @@ block_ends kinds dn st n i p whole xs e h =
     e ∙ ap (λ m. prefixed xs (block kinds dn st m p)) z ∙ ap (prefixed xs) (block_zero kinds dn st p)
 
 pub block_closes : (kinds : List TokenKind) (dn : ReadsDeclaration) (st : ReadsStatement) (n i : ℕ) (p : Place) (whole : Outcome (List BlockItem)) (xs : List BlockItem)
-    → whole ≡ prefixed xs (block kinds dn st (n - i) p) → i < n → bare_at kinds p ≡ sign.CurlyCloses → whole ≡ Gives xs p
+    → whole ≡ prefixed xs (block kinds dn st (n - i) p) → i < n → bare_at kinds p ≡ mark.CurlyCloses → whole ≡ Gives xs p
 block_closes kinds dn st n i p whole xs e h g =
     e ∙ ap (prefixed xs) (block_one kinds dn st n i p h ∙ block_end kinds dn st (block kinds dn st (n - (i + 1))) p (mark_at kinds p) g) ∙ ap (λ ys. Gives ys p) (append_none xs)
 
-block_then : (kinds : List TokenKind) (dn : ReadsDeclaration) (st : ReadsStatement) (n i : ℕ) (p : Place) (o : Outcome BlockItem) → i < n → (bare_at kinds p ≡ sign.CurlyCloses → ⊥)
+block_then : (kinds : List TokenKind) (dn : ReadsDeclaration) (st : ReadsStatement) (n i : ℕ) (p : Place) (o : Outcome BlockItem) → i < n → (bare_at kinds p ≡ mark.CurlyCloses → ⊥)
     → item kinds dn st p ≡ o → block kinds dn st (n - i) p ≡ and_then o (λ x q. and_then (block kinds dn st (n - (i + 1)) q) (λ xs r. Gives (x ∷ xs) r))
 block_then kinds dn st n i p o h g f =
     block_one kinds dn st n i p h ∙ block_item kinds dn st (block kinds dn st (n - (i + 1))) p (mark_at kinds p) g
     ∙ ap (λ o. and_then o (λ x q. and_then (block kinds dn st (n - (i + 1)) q) (λ xs r. Gives (x ∷ xs) r))) f
 
 pub block_fails : (kinds : List TokenKind) (dn : ReadsDeclaration) (st : ReadsStatement) (n i : ℕ) (p : Place) (whole : Outcome (List BlockItem)) (xs : List BlockItem)
-    → whole ≡ prefixed xs (block kinds dn st (n - i) p) → i < n → (bare_at kinds p ≡ sign.CurlyCloses → ⊥) → item kinds dn st p ≡ Refuses → whole ≡ Refuses
+    → whole ≡ prefixed xs (block kinds dn st (n - i) p) → i < n → (bare_at kinds p ≡ mark.CurlyCloses → ⊥) → item kinds dn st p ≡ Refuses → whole ≡ Refuses
 block_fails kinds dn st n i p whole xs e h g f = e ∙ ap (prefixed xs) (block_then kinds dn st n i p Refuses h g f)
 
 pub block_goes_on : (kinds : List TokenKind) (dn : ReadsDeclaration) (st : ReadsStatement) (n i : ℕ) (p q : Place) (whole : Outcome (List BlockItem)) (xs ys : List BlockItem)
-    (x : BlockItem) → whole ≡ prefixed xs (block kinds dn st (n - i) p) → i < n → (bare_at kinds p ≡ sign.CurlyCloses → ⊥) → item kinds dn st p ≡ Gives x q
+    (x : BlockItem) → whole ≡ prefixed xs (block kinds dn st (n - i) p) → i < n → (bare_at kinds p ≡ mark.CurlyCloses → ⊥) → item kinds dn st p ≡ Gives x q
     → ys ≡ xs ++ x ∷ [] → whole ≡ prefixed ys (block kinds dn st (n - (i + 1)) q)
 block_goes_on kinds dn st n i p q whole xs ys x e h g f d =
     e ∙ ap (prefixed xs) (block_then kinds dn st n i p (Gives x q) h g f) ∙ prefixed_more xs x (block kinds dn st (n - (i + 1)) q)
@@ -186,24 +186,24 @@ chain_one kinds rd st n i p o h e =
     ap (λ m. chain kinds rd st m p) (one_further n i h) ∙ chain_on kinds rd st (n - (i + 1)) p
     ∙ ap (λ o. and_then o (λ x r. chain_by kinds st (chain kinds rd st (n - (i + 1))) x r (mark_at kinds r))) e
 
-by_other : (kinds : List TokenKind) (st : ReadsStatement) (more : Place → Outcome Chain) (x : Branch) (r : Place) (m : Mark) → (bare m ≡ sign.Else → ⊥)
+by_other : (kinds : List TokenKind) (st : ReadsStatement) (more : Place → Outcome Chain) (x : Branch) (r : Place) (m : spec.Mark) → (bare m ≡ mark.Else → ⊥)
     → chain_by kinds st more x r m ≡ Gives (Chains (x ∷ []) None) (leave (leave r))
-by_other kinds st more x r mark.Else h = absurd (h refl)
+by_other kinds st more x r spec.Else h = absurd (h refl)
 by_other kinds st more x r _ h = refl
 
-by_else : (kinds : List TokenKind) (st : ReadsStatement) (more : Place → Outcome Chain) (x : Branch) (r : Place) (m : Mark) → bare m ≡ sign.Else
+by_else : (kinds : List TokenKind) (st : ReadsStatement) (more : Place → Outcome Chain) (x : Branch) (r : Place) (m : spec.Mark) → bare m ≡ mark.Else
     → chain_by kinds st more x r m ≡ else_by st more x r (mark_at kinds (next r))
-by_else kinds st more x r mark.Else h = refl
+by_else kinds st more x r spec.Else h = refl
 by_else kinds st more x r _ h = cc
 
-else_if : (st : ReadsStatement) (more : Place → Outcome Chain) (x : Branch) (r : Place) (m : Mark) → bare m ≡ sign.If
+else_if : (st : ReadsStatement) (more : Place → Outcome Chain) (x : Branch) (r : Place) (m : spec.Mark) → bare m ≡ mark.If
     → else_by st more x r m ≡ and_then (more (enter (leave (next r)))) (first_chained x)
-else_if st more x r mark.If h = refl
+else_if st more x r spec.If h = refl
 else_if st more x r _ h = cc
 
-else_other : (st : ReadsStatement) (more : Place → Outcome Chain) (x : Branch) (r : Place) (m : Mark) → (bare m ≡ sign.If → ⊥)
+else_other : (st : ReadsStatement) (more : Place → Outcome Chain) (x : Branch) (r : Place) (m : spec.Mark) → (bare m ≡ mark.If → ⊥)
     → else_by st more x r m ≡ and_then (st (enter (leave (next r)))) (λ y s. Gives (Chains (x ∷ []) (Some y)) (leave (leave s)))
-else_other st more x r mark.If h = absurd (h refl)
+else_other st more x r spec.If h = absurd (h refl)
 else_other st more x r _ h = refl
 
 pub chain_ends : (kinds : List TokenKind) (rd : Reader) (st : ReadsStatement) (n i : ℕ) (p : Place) (whole : Outcome Chain) (xs : List Branch)
@@ -217,7 +217,7 @@ pub chain_fails : (kinds : List TokenKind) (rd : Reader) (st : ReadsStatement) (
 chain_fails kinds rd st n i p whole xs e h f = ap (λ o. and_then o chained) (e ∙ ap (resumed (length xs) xs) (chain_one kinds rd st n i p Refuses h f))
 
 pub chain_last : (kinds : List TokenKind) (rd : Reader) (st : ReadsStatement) (n i k : ℕ) (p r : Place) (whole : Outcome Chain) (xs ys : List Branch) (x : Branch)
-    → whole ≡ resumed (length xs) xs (chain kinds rd st (n - i) p) → i < n → branch kinds rd st p ≡ Gives x r → (bare_at kinds r ≡ sign.Else → ⊥)
+    → whole ≡ resumed (length xs) xs (chain kinds rd st (n - i) p) → i < n → branch kinds rd st p ≡ Gives x r → (bare_at kinds r ≡ mark.Else → ⊥)
     → ys ≡ xs ++ x ∷ [] → k ≡ length ys → and_then whole chained ≡ Gives (statement_node.If ys) (leaves k r)
 chain_last kinds rd st n i k p r whole xs ys x e h f g d b =
     ap (λ o. and_then o chained) (e ∙ ap (resumed (length xs) xs) (chain_one kinds rd st n i p (Gives x r) h f
@@ -226,34 +226,40 @@ chain_last kinds rd st n i k p r whole xs ys x e h f g d b =
     ∙ ap (λ k. Gives (statement_node.If ys) (leaves k r)) (sym (b ∙ ap length d ∙ length_more xs x))
 
 chain_else_at : (kinds : List TokenKind) (rd : Reader) (st : ReadsStatement) (n i : ℕ) (p r s : Place) (xs : List Branch) (x : Branch) (o : Outcome Statement)
-    → i < n → branch kinds rd st p ≡ Gives x r → bare_at kinds r ≡ sign.Else → s ≡ enter (leave (next r)) → (bare_at kinds s ≡ sign.If → ⊥) → st s ≡ o
+    → i < n → branch kinds rd st p ≡ Gives x r → bare_at kinds r ≡ mark.Else → s ≡ enter (leave (next r)) → (bare_at kinds s ≡ mark.If → ⊥) → st s ≡ o
     → resumed (length xs) xs (chain kinds rd st (n - i) p) ≡ resumed (length xs) xs (and_then o (λ y t. Gives (Chains (x ∷ []) (Some y)) (leave (leave t))))
 chain_else_at kinds rd st n i p r s xs x o h f g b k e =
     ap (resumed (length xs) xs) (chain_one kinds rd st n i p (Gives x r) h f ∙ by_else kinds st (chain kinds rd st (n - (i + 1))) x r (mark_at kinds r) g
-    ∙ else_other st (chain kinds rd st (n - (i + 1))) x r (mark_at kinds (next r)) (subst (λ s. bare_at kinds s ≡ sign.If → ⊥) b k)
+    ∙ else_other st (chain kinds rd st (n - (i + 1))) x r (mark_at kinds (next r)) (subst (λ s. bare_at kinds s ≡ mark.If → ⊥) b k)
     ∙ ap (λ o. and_then o (λ y t. Gives (Chains (x ∷ []) (Some y)) (leave (leave t)))) (ap st (sym b) ∙ e))
 
-pub chain_else : (kinds : List TokenKind) (rd : Reader) (st : ReadsStatement) (n i k : ℕ) (p r s t : Place) (whole : Outcome Chain) (xs ys : List Branch) (x : Branch) (y : Statement)
-    → whole ≡ resumed (length xs) xs (chain kinds rd st (n - i) p) → i < n → branch kinds rd st p ≡ Gives x r → bare_at kinds r ≡ sign.Else
-    → s ≡ enter (leave (next r)) → (bare_at kinds s ≡ sign.If → ⊥) → st s ≡ Gives y t → ys ≡ xs ++ x ∷ [] → k ≡ length ys
-    → and_then whole chained ≡ Gives (statement_node.IfElse ys y) (leaves k t)
-chain_else kinds rd st n i k p r s t whole xs ys x y e h f g b m c d l =
-    ap (λ o. and_then o chained) (e ∙ chain_else_at kinds rd st n i p r s xs x (Gives y t) h f g b m c)
-    ∙ ap (λ zs. Gives (statement_node.IfElse zs y) (leaves (suc (length xs)) t)) (sym d)
-    ∙ ap (λ k. Gives (statement_node.IfElse ys y) (leaves k t)) (sym (l ∙ ap length d ∙ length_more xs x))
+last_else_by : (xs : List Branch) (x : Branch) (o : Outcome Statement)
+    → and_then (resumed (length xs) xs (and_then o (λ y t. Gives (Chains (x ∷ []) (Some y)) (leave (leave t))))) chained
+        ≡ and_then o (λ y t. Gives (statement_node.IfElse (xs ++ x ∷ []) y) (leaves (length (xs ++ x ∷ [])) t))
+last_else_by xs x (Gives y t) = ap (λ k. Gives (statement_node.IfElse (xs ++ x ∷ []) y) (leaves k t)) (sym (length_more xs x))
+last_else_by xs x Refuses = refl
 
-pub chain_else_fails : (kinds : List TokenKind) (rd : Reader) (st : ReadsStatement) (n i : ℕ) (p r s : Place) (whole : Outcome Chain) (xs : List Branch) (x : Branch)
-    → whole ≡ resumed (length xs) xs (chain kinds rd st (n - i) p) → i < n → branch kinds rd st p ≡ Gives x r → bare_at kinds r ≡ sign.Else
-    → s ≡ enter (leave (next r)) → (bare_at kinds s ≡ sign.If → ⊥) → st s ≡ Refuses → and_then whole chained ≡ Refuses
-chain_else_fails kinds rd st n i p r s whole xs x e h f g b m c = ap (λ o. and_then o chained) (e ∙ chain_else_at kinds rd st n i p r s xs x Refuses h f g b m c)
+pub chain_else : (kinds : List TokenKind) (rd : Reader) (st : ReadsStatement) (n i : ℕ) (p r s : Place) (whole : Outcome Chain) (xs ys : List Branch) (x : Branch)
+    → whole ≡ resumed (length xs) xs (chain kinds rd st (n - i) p) → i < n → branch kinds rd st p ≡ Gives x r → bare_at kinds r ≡ mark.Else
+    → s ≡ enter (leave (next r)) → (bare_at kinds s ≡ mark.If → ⊥) → ys ≡ xs ++ x ∷ [] → and_then whole chained ≡ last_else st ys s
+chain_else kinds rd st n i p r s whole xs ys x e h f g b m d =
+    ap (λ o. and_then o chained) (e ∙ chain_else_at kinds rd st n i p r s xs x (st s) h f g b m refl) ∙ last_else_by xs x (st s)
+    ∙ ap (λ zs. last_else st zs s) (sym d)
+
+pub chain_else_read : (kinds : List TokenKind) (rd : Reader) (st : ReadsStatement) (n i : ℕ) (p r s t : Place) (whole : Outcome Chain) (xs ys : List Branch) (x : Branch)
+    (result : Result Statement Fault) → whole ≡ resumed (length xs) xs (chain kinds rd st (n - i) p) → i < n → branch kinds rd st p ≡ Gives x r
+    → bare_at kinds r ≡ mark.Else → s ≡ enter (leave (next r)) → (bare_at kinds s ≡ mark.If → ⊥) → ys ≡ xs ++ x ∷ []
+    → Reads (last_else st ys s) result t → Reads (and_then whole chained) result t
+chain_else_read kinds rd st n i p r s t whole xs ys x result e h f g b m d read =
+    subst (λ o. Reads o result t) (sym (chain_else kinds rd st n i p r s whole xs ys x e h f g b m d)) read
 
 pub chain_goes_on : (kinds : List TokenKind) (rd : Reader) (st : ReadsStatement) (n i : ℕ) (p r s : Place) (whole : Outcome Chain) (xs ys : List Branch) (x : Branch)
-    → whole ≡ resumed (length xs) xs (chain kinds rd st (n - i) p) → i < n → branch kinds rd st p ≡ Gives x r → bare_at kinds r ≡ sign.Else
-    → s ≡ enter (leave (next r)) → bare_at kinds s ≡ sign.If → ys ≡ xs ++ x ∷ []
+    → whole ≡ resumed (length xs) xs (chain kinds rd st (n - i) p) → i < n → branch kinds rd st p ≡ Gives x r → bare_at kinds r ≡ mark.Else
+    → s ≡ enter (leave (next r)) → bare_at kinds s ≡ mark.If → ys ≡ xs ++ x ∷ []
     → whole ≡ resumed (length ys) ys (chain kinds rd st (n - (i + 1)) s)
 chain_goes_on kinds rd st n i p r s whole xs ys x e h f g b k d =
     e ∙ ap (resumed (length xs) xs) (chain_one kinds rd st n i p (Gives x r) h f ∙ by_else kinds st (chain kinds rd st (n - (i + 1))) x r (mark_at kinds r) g
-    ∙ else_if st (chain kinds rd st (n - (i + 1))) x r (mark_at kinds (next r)) (subst (λ s. bare_at kinds s ≡ sign.If) b k))
+    ∙ else_if st (chain kinds rd st (n - (i + 1))) x r (mark_at kinds (next r)) (subst (λ s. bare_at kinds s ≡ mark.If) b k))
     ∙ resumed_first (length xs) xs x (chain kinds rd st (n - (i + 1)) (enter (leave (next r))))
     ∙ ap (λ k. resumed k (xs ++ x ∷ []) (chain kinds rd st (n - (i + 1)) (enter (leave (next r))))) (sym (length_more xs x))
     ∙ ap (λ zs. resumed (length zs) zs (chain kinds rd st (n - (i + 1)) (enter (leave (next r))))) (sym d)

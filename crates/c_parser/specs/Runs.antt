@@ -1,5 +1,5 @@
 -- What reads the statements inside a statement ensures.
-use Rattle.std.specs.Prelude.{ℕ, zero, suc, ◌≤◌, ◌≡◌, List, [], Result, Ok, Err}
+use Rattle.std.specs.Prelude.{ℕ, zero, suc, ◌≤◌, ◌≡◌, List, [], length, Result, Ok, Err}
 use Rattle.std.specs.declared.alloc.Global.{Global}
 use denote.Ref.{Bor, MutBor}
 use Rattle.c_model.specs.declared.token.Token.{Token}
@@ -36,6 +36,10 @@ branch kinds rd st p = and_then (test kinds rd (enter (next p))) (λ x q. and_th
 abbrev pub leaves : ℕ → Place → Place
 leaves zero p = p
 leaves (suc n) p = leaves n (leave (leave p))
+
+-- behind a last `else`, with the branches before it, whose blocks are still open
+abbrev pub last_else : ReadsStatement → List Branch → Place → Outcome Statement
+last_else st branches p = and_then (st p) (λ x q. Gives (statement_node.IfElse branches x) (leaves (length branches) q))
 
 -- a place with this number
 abbrev pub at_number : ℕ → Place

@@ -6,12 +6,11 @@ ghost use Rattle.c_grammar.specs.Readers as readers;
 ghost use Rattle.c_grammar.specs.Reader.{and_then};
 ghost use Rattle.c_grammar.specs.ReadStatements as spec;
 ghost use Rattle.c_expressions.specs.Reads.{Reads};
-ghost use Rattle.c_parser.specs.Runs.{RunsStatements, branch, leaves};
+ghost use Rattle.c_parser.specs.Runs.{RunsStatements, branch, last_else, leaves};
 
-use c_expressions::{Fault, refuse};
-use c_expressions::{Mark, mark_at};
 use crate::statements::Statements;
 use crate::values::test;
+use c_expressions::{Fault, Mark, mark_at, refuse};
 use c_model::Token;
 use c_scopes::Cursor;
 use c_tree::{Branch, Statement};
@@ -45,6 +44,19 @@ impl<'t, S: Fn(Global, &[Token], usize, &mut Cursor) -> Result<Statement, Fault>
         Ok(Branch { test, body, at })
     }
 
+    /// What stands behind a last `else`, with the branches before it, whose blocks are still open.
+    fn last_else(&self, branches: Items<Branch>, place: &mut Cursor) -> Result<Statement, Fault>
+        requires runs { RunsStatements self.now.depth (S.pre self.now.inner) (S.post self.now.inner) }
+        ensures { Reads (last_else (spec.statement (kinds_of self.now.tokens.now) self.now.depth) branches place.old) result place.new }
+    {
+        let otherwise = self.inner(place)?;
+        leave_branches(branches.len(), place);
+        Ok(Statement::IfElse {
+            branches,
+            otherwise: Boxed::new(self.alloc, otherwise)?,
+        })
+    }
+
     /// `if`, `else if` and so on, and what stands after a last `else`.
     pub fn chain(&self, place: &mut Cursor) -> Result<Statement, Fault>
         requires runs { RunsStatements self.now.depth (S.pre self.now.inner) (S.post self.now.inner) }
@@ -56,21 +68,16 @@ impl<'t, S: Fn(Global, &[Token], usize, &mut Cursor) -> Result<Statement, Fault>
             let _ = turn;
             let branch = self.branch(place)?;
             branches.push(branch)?;
-            if mark_at(self.tokens, place) != Mark::Else {
+            let Mark::Else = mark_at(self.tokens, place) else {
                 leave_branches(branches.len(), place);
                 return Ok(Statement::If { branches });
-            }
+            };
             place.skip();
             place.leave();
             place.enter()?;
-            if mark_at(self.tokens, place) != Mark::If {
-                let otherwise = self.inner(place)?;
-                leave_branches(branches.len(), place);
-                return Ok(Statement::IfElse {
-                    branches,
-                    otherwise: Boxed::new(self.alloc, otherwise)?,
-                });
-            }
+            let Mark::If = mark_at(self.tokens, place) else {
+                return self.last_else(branches, place);
+            };
         }
         Err(refuse(place))
     }

@@ -8,12 +8,8 @@ ghost use Rattle.c_grammar.specs.ReadTypes.{listed, separated, separated_after};
 ghost use Rattle.c_grammar.specs.ReadStatements as spec;
 ghost use Rattle.c_expressions.specs.Reads.{Reads, ReadsAs, specified_of, titled_of};
 
-use c_expressions::{Fault, refuse};
-use c_expressions::grammar;
+use c_expressions::{Fault, Mark, Perhaps, Specified, Titled, attributes, grammar, mark_at, refuse, take};
 use c_grammar::ASSIGNMENT;
-use c_expressions::{Perhaps, Specified, Titled};
-use c_expressions::{Mark, mark_at, take};
-use c_expressions::attributes;
 use c_model::Token;
 use c_scopes::Cursor;
 use c_tree::{Declaration, Declared, DeclaredNames, Initialiser};
@@ -95,7 +91,7 @@ pub fn declarator(
 {
     match grammar::perhaps(alloc, tokens, depth, place)? {
         Perhaps::With { titled } => {
-            attributes(tokens, depth, place)?;
+            attributes(alloc, tokens, depth, place)?;
             Ok(titled)
         }
         Perhaps::Without { .. } => Err(refuse(place)),

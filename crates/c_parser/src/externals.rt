@@ -11,11 +11,8 @@ ghost use Rattle.c_expressions.specs.Reads.{Reads, specified_of, titled_of};
 ghost use Rattle.c_parser.specs.Runs.{ReadsText};
 
 use crate::declarations::{declarator, declared_after, further_names};
-use c_expressions::{Fault, refuse};
-use c_expressions::grammar;
-use c_expressions::{Specified, Titled};
-use c_expressions::{Mark, mark_at, take};
 use crate::statements::block_items;
+use c_expressions::{Fault, Mark, Specified, Titled, grammar, mark_at, refuse, take};
 use c_model::Token;
 use c_scopes::{Block, Cursor};
 use c_tree::{Declaration, DeclaredNames, External, Externals, Specifier};
@@ -107,6 +104,20 @@ fn external_after(
         });
     }
     let titled = declarator(alloc, tokens, depth, place)?;
+    external_named(alloc, tokens, depth, specified, titled, place)
+}
+
+/// What stands behind the first declarator.
+fn external_named(
+    alloc: Global,
+    tokens: &[Token],
+    depth: usize,
+    specified: Specified,
+    titled: Titled,
+    place: &mut Cursor,
+) -> Result<External, Fault>
+    ensures { let kinds = kinds_of tokens.now in Reads (spec.external_by kinds depth specified.defines specified.list (titled_of titled) place.old (mark_at kinds place.old)) result place.new }
+{
     if mark_at(tokens, place) == Mark::CurlyOpens {
         return defined(alloc, tokens, depth, specified, titled, place);
     }

@@ -10,5 +10,5 @@ mod parser;
 mod statements;
 mod values;
 
-pub use nesting::{first_left_out, first_too_deep};
+pub use nesting::{LIMIT, first_left_out, first_too_deep};
 pub use parser::{ParseFault, parse};

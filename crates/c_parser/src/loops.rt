@@ -9,10 +9,9 @@ ghost use Rattle.c_grammar.specs.ReadStatements as spec;
 ghost use Rattle.c_expressions.specs.Reads.{Reads};
 ghost use Rattle.c_parser.specs.Runs.{RunsStatements, at_number};
 
-use c_expressions::Fault;
-use c_expressions::{Mark, take};
 use crate::statements::Statements;
 use crate::values::{optional, optional_step, start, test};
+use c_expressions::{Fault, Mark, take};
 use c_model::Token;
 use c_scopes::Cursor;
 use c_tree::{Expression, ForStart, Statement};

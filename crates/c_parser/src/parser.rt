@@ -1,13 +1,15 @@
 //! The parser of whole texts.
 
-ghost use Rattle.std.specs.Prelude.{◌≡◌};
-ghost use Rattle.c_parser.specs.Parses.{Parses, IsWhole};
+ghost use Rattle.std.specs.Prelude.{◌≡◌, ℕ, IfOk};
+ghost use Rattle.c_tree.specs.SpellsText.{Spells};
+ghost use Rattle.c_parser.specs.Parses.{left_out, IsFirstTooDeep, IsWithin, SpellsNone, IsWhole};
 
 use crate::externals::text;
-use c_expressions::Fault;
 use crate::nesting::{first_left_out, first_too_deep};
+use c_expressions::Fault;
+use c_grammar::laws::one_tree;
 use c_model::{Token, Tokens};
-use c_tree::{Externals, Tree};
+use c_tree::Tree;
 use kv_base::NoMemory;
 use std::alloc::Global;
 use thiserror::Error;
@@ -40,9 +42,17 @@ impl From<NoMemory> for ParseFault {
     }
 }
 
-/// The tree of a text. Where the tokens have no tree, `Syntax` names a token, which is not promised to be the first fault.
+/// The tree of a text (C11 6.9). Where the tokens have no tree, `Syntax` names a token, which isn't promised to be the
+/// first fault.
+///
+/// # Errors
+///
+/// What the text is refused for.
 pub fn parse(alloc: Global, tokens: &Tokens) -> Result<Tree, ParseFault>
-    ensures { Parses tokens.now result }
+    ensures parsed { IfOk result (λ tree. IsWithin tokens.now × Spells tokens.now tree) }
+    ensures left_out { (at : ℕ) → result ≡ Err (ParseFault.LeftOut at) → left_out tokens.now ≡ Some at }
+    ensures too_deep { (at : ℕ) → result ≡ Err (ParseFault.TooDeep at) → (left_out tokens.now ≡ None) × IsFirstTooDeep tokens.now (Some at) }
+    ensures syntax { (at : ℕ) → result ≡ Err (ParseFault.Syntax at) → IsWithin tokens.now × SpellsNone tokens.now }
 {
     let tokens = tokens.as_slice();
     if let Some(at) = first_left_out(tokens) {
@@ -58,6 +68,7 @@ pub fn parse(alloc: Global, tokens: &Tokens) -> Result<Tree, ParseFault>
 fn whole(alloc: Global, tokens: &[Token]) -> Result<Tree, ParseFault>
     ensures { IsWhole tokens.now result }
 {
+    one_tree();
     match text(alloc, tokens) {
         Ok(externals) => Ok(Tree { externals }),
         Err(Fault::Syntax { at }) => Err(ParseFault::Syntax { at }),

@@ -12,11 +12,9 @@ ghost use Rattle.c_expressions.specs.Reads.{Reads};
 ghost use Rattle.c_parser.specs.Runs.{RunsStatements, label_statement};
 
 use crate::declarations::declaration;
-use c_expressions::{Fault, refuse};
-use c_expressions::grammar;
+use crate::values::{break_statement, continue_statement, return_statement, value_statement};
+use c_expressions::{Fault, Mark, begins_type, grammar, mark_at, refuse, second_mark, take};
 use c_grammar::CONDITIONAL;
-use c_expressions::{Mark, begins_type, mark_at, second_mark, take};
-use crate::values::{plain_statement, return_statement, value_statement};
 use c_model::{Token, TokenKind};
 use c_scopes::Cursor;
 use c_tree::{BlockItem, Statement};
@@ -51,10 +49,10 @@ impl<'t, S: Fn(Global, &[Token], usize, &mut Cursor) -> Result<Statement, Fault>
         requires runs { RunsStatements self.now.depth (S.pre self.now.inner) (S.post self.now.inner) }
         ensures { let kinds = kinds_of self.now.tokens.now in Reads (spec.labelled kinds (spec.statement kinds self.now.depth) place.old) result place.new }
     {
-        if mark_at(self.tokens, place) == Mark::CurlyCloses {
-            return Ok(Statement::Empty { at: place.at() });
+        match mark_at(self.tokens, place) {
+            Mark::CurlyCloses => Ok(Statement::Empty { at: place.at() }),
+            _ => self.inner(place),
         }
-        self.inner(place)
     }
 
     /// `name: body` (6.8.1).
@@ -197,14 +195,8 @@ impl<'t, S: Fn(Global, &[Token], usize, &mut Cursor) -> Result<Statement, Fault>
             Some(TokenKind::While) => self.while_loop(place),
             Some(TokenKind::Do) => self.do_loop(place),
             Some(TokenKind::For) => self.for_loop(place),
-            Some(TokenKind::Break) => {
-                let at = place.at();
-                plain_statement(self.tokens, Statement::Break { at }, place)
-            }
-            Some(TokenKind::Continue) => {
-                let at = place.at();
-                plain_statement(self.tokens, Statement::Continue { at }, place)
-            }
+            Some(TokenKind::Break) => break_statement(self.tokens, place),
+            Some(TokenKind::Continue) => continue_statement(self.tokens, place),
             Some(TokenKind::Return) => {
                 return_statement(self.alloc, self.tokens, self.steps, place)
             }

@@ -1,16 +1,17 @@
 //! Expressions in statements, and statements that contain none (C11 6.8).
 
 ghost use Rattle.std.specs.Prelude.{◌≡◌, ◌<◌};
+ghost use Rattle.c_tree.specs.Places.{next};
 ghost use Rattle.c_tree.specs.SpellsText.{kinds_of};
 ghost use Rattle.c_grammar.specs.Marks.{mark_at};
+ghost use Rattle.c_grammar.specs.Reader.{and_then, Gives};
 ghost use Rattle.c_grammar.specs.Readers as readers;
+ghost use Rattle.c_grammar.specs.ReadTypes.{where_semicolon};
 ghost use Rattle.c_grammar.specs.ReadStatements as spec;
 ghost use Rattle.c_expressions.specs.Reads.{Reads};
 
 use crate::declarations::declaration;
-use c_expressions::Fault;
-use c_expressions::grammar;
-use c_expressions::{Mark, begins_type, mark_at, take};
+use c_expressions::{Fault, Mark, begins_type, grammar, mark_at, take};
 use c_model::Token;
 use c_scopes::Cursor;
 use c_tree::{Expression, ForStart, Statement};
@@ -82,7 +83,19 @@ pub fn start(
         let declaration = declaration(alloc, tokens, depth, place)?;
         return Ok(ForStart::Declared { declaration });
     }
-    let value = grammar::read(alloc, tokens, steps, 0, place)?;
+    value_start(alloc, tokens, steps, place)
+}
+
+/// `expression;`, where a `for` starts.
+fn value_start(
+    alloc: Global,
+    tokens: &[Token],
+    depth: usize,
+    place: &mut Cursor,
+) -> Result<ForStart, Fault>
+    ensures { let kinds = kinds_of tokens.now in Reads (and_then (readers.read kinds depth 0 place.old) (λ x q. where_semicolon (mark_at kinds q) (Gives (ForStart.Value x) (next q)))) result place.new }
+{
+    let value = grammar::read(alloc, tokens, depth, 0, place)?;
     take(tokens, Mark::Semicolon, place)?;
     Ok(ForStart::Value { value })
 }
@@ -119,16 +132,24 @@ pub fn return_statement(
     Ok(Statement::Return { value, at })
 }
 
-/// A word and a `;`, which are this statement (6.8.6).
-pub fn plain_statement(
-    tokens: &[Token],
-    made: Statement,
-    place: &mut Cursor,
-) -> Result<Statement, Fault>
+/// `break;` (6.8.6.3).
+pub fn break_statement(tokens: &[Token], place: &mut Cursor) -> Result<Statement, Fault>
     requires here { place.old.at < usize.MAX }
-    ensures { Reads (spec.plain_statement (kinds_of tokens.now) made place.old) result place.new }
+    ensures { Reads (spec.plain_statement (kinds_of tokens.now) (Statement.Break place.old.at) place.old) result place.new }
 {
+    let at = place.at();
     place.skip();
     take(tokens, Mark::Semicolon, place)?;
-    Ok(made)
+    Ok(Statement::Break { at })
+}
+
+/// `continue;` (6.8.6.2).
+pub fn continue_statement(tokens: &[Token], place: &mut Cursor) -> Result<Statement, Fault>
+    requires here { place.old.at < usize.MAX }
+    ensures { Reads (spec.plain_statement (kinds_of tokens.now) (Statement.Continue place.old.at) place.old) result place.new }
+{
+    let at = place.at();
+    place.skip();
+    take(tokens, Mark::Semicolon, place)?;
+    Ok(Statement::Continue { at })
 }

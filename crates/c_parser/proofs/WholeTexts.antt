@@ -1,0 +1,30 @@
+-- What the reader of texts gives is what a text spells, by the laws of the grammar.
+use Rattle.std.proofs.Common.{◌≡◌, ℕ, List, None, subst}
+use Rattle.std.specs.Prelude.{Result, Ok, Err}
+use Rattle.c_model.specs.declared.token.Token.{Token}
+use Rattle.c_tree.specs.declared.declaration.External.{External}
+use Rattle.c_tree.specs.declared.declaration.Tree.{Tree}
+use Rattle.c_tree.specs.SpellsText.{kinds_of, Spells}
+use Rattle.c_expressions.specs.declared.fault.Fault.{Fault}
+use Rattle.c_grammar.specs.Laws.{ReadsWhatIsSpelled, RefusesTheRest}
+use Rattle.c_grammar.specs.Reader.{Refuses}
+use Rattle.c_grammar.specs.ReadText.{text}
+use Rattle.c_parser.specs.declared.parser.ParseFault.{ParseFault}
+use Rattle.c_parser.specs.declared.parser.ParseFault.TheVariants as fault
+use Rattle.c_parser.specs.Parses.{left_out, IsFirstTooDeep, IsWithin, SpellsNone, IsWhole}
+use Rattle.c_parser.specs.Runs.{ReadsText}
+
+pub spelled : (law : ReadsWhatIsSpelled) (tokens : List Token) (externals : List External) → ReadsText (text (kinds_of tokens)) (Ok externals)
+    → Spells tokens (record { externals = externals })
+spelled law tokens externals read = (law tokens (record { externals = externals })).1 read
+
+pub unspelled : (law : RefusesTheRest) (tokens : List Token) → text (kinds_of tokens) ≡ Refuses → SpellsNone tokens
+unspelled law tokens refuses = (law tokens).0 refuses
+
+-- a text that is read whole and has no tree
+pub refused_whole : (tokens slice : List Token) (result : Result Tree ParseFault) (at : ℕ) → slice ≡ tokens → left_out slice ≡ None → IsFirstTooDeep slice None
+    → IsWhole slice result → result ≡ Err (fault.Syntax at) → IsWithin tokens × SpellsNone tokens
+refused_whole tokens slice result at e none within whole is =
+    let refuses : SpellsNone slice = subst (IsWhole slice) is whole in
+    let P : List Token → Type 0 = λ ts. IsWithin ts × SpellsNone ts in
+    subst P e ((none, within), refuses)
