@@ -1,5 +1,5 @@
 -- What has no meaning, and qualifiers, one by one.
-use Rattle.std.proofs.Common.{◌≡◌, ℕ, zero, suc, ◌+◌, ◌-◌, ◌<◌, ◌≤◌, Bool, true, false, List, [], ◌∷◌, ◌++◌, refl, sym, ◌∙◌, ap, append_assoc, arith}
+use Rattle.std.proofs.Common.{◌≡◌, ℕ, ◌+◌, ◌-◌, ◌<◌, ◌≤◌, true, false, List, [], ◌∷◌, ◌++◌, refl, sym, ◌∙◌, ap, arith}
 use Rattle.c_model.specs.declared.token.TokenKind.{TokenKind}
 use Rattle.c_tree.specs.declared.expression.Qualifier.{Qualifier}
 use Rattle.c_tree.specs.Places.{Place, next}
@@ -220,12 +220,12 @@ attribute_on : (kinds : List TokenKind) (inside more : Skips) (p : Place)
     → attribute kinds inside more p ≡ and_then (attribute kinds inside (λ q. Gives tt q) p) (λ u q. more q)
 attribute_on kinds inside more p =
     let last : (q : Place) → where_closes (mark_at kinds q) (where_closes (mark_at kinds (next q)) (more (next (next q))))
-            ≡ and_then (where_closes (mark_at kinds q) (where_closes (mark_at kinds (next q)) (Gives tt (next (next q))))) (λ u q. more q) =
-        λ q. closes_both (mark_at kinds q) (where_closes (mark_at kinds (next q)) (more (next (next q)))) (where_closes (mark_at kinds (next q)) (Gives tt (next (next q)))) (λ u q. more q)
-            (closes_both (mark_at kinds (next q)) (more (next (next q))) (Gives tt (next (next q))) (λ u q. more q) refl) in
+    ≡ and_then (where_closes (mark_at kinds q) (where_closes (mark_at kinds (next q)) (Gives tt (next (next q))))) (λ u q. more q) =
+    λ q. closes_both (mark_at kinds q) (where_closes (mark_at kinds (next q)) (more (next (next q)))) (where_closes (mark_at kinds (next q)) (Gives tt (next (next q)))) (λ u q. more q)
+    (closes_both (mark_at kinds (next q)) (more (next (next q))) (Gives tt (next (next q))) (λ u q. more q) refl) in
     opens_both (mark_at kinds p) _ _ (λ u q. more q) (opens_both (mark_at kinds (next p)) _ _ (λ u q. more q)
-        (then_both (inside (next (next p))) (λ u q. where_closes (mark_at kinds q) (where_closes (mark_at kinds (next q)) (more (next (next q)))))
-        (λ u q. where_closes (mark_at kinds q) (where_closes (mark_at kinds (next q)) (Gives tt (next (next q))))) (λ u q. more q) (λ u q. last q)))
+    (then_both (inside (next (next p))) (λ u q. where_closes (mark_at kinds q) (where_closes (mark_at kinds (next q)) (more (next (next q)))))
+    (λ u q. where_closes (mark_at kinds q) (where_closes (mark_at kinds (next q)) (Gives tt (next (next q))))) (λ u q. more q) (λ u q. last q)))
 
 attributes_step : (kinds : List TokenKind) (n : ℕ) (p : Place) → 0 < n
     → attributes kinds n p ≡ attributes_by kinds (balanced kinds (n - 1) []) (attributes kinds (n - 1)) p (mark_at kinds p)
