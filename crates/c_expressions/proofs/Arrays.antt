@@ -1,12 +1,12 @@
 -- The arrays of a type name, one by one.
-use Rattle.std.proofs.Common.{◌≡◌, ℕ, zero, suc, ◌+◌, ◌-◌, ◌<◌, ◌≤◌, List, refl, sym, ◌∙◌, ap, arith}
+use Rattle.std.proofs.Common.{◌≡◌, ℕ, ◌+◌, ◌-◌, ◌<◌, ◌≤◌, List, refl, ◌∙◌, ap, arith}
 use Rattle.c_model.specs.declared.token.TokenKind.{TokenKind}
 use Rattle.c_tree.specs.declared.expression.Expression.{Expression}
 use Rattle.c_tree.specs.declared.expression.Declarator.{Declarator}
 use Rattle.c_tree.specs.declared.expression.Declarator.TheVariants as declarator_node
 use Rattle.c_tree.specs.Places.{Place, next}
 use Rattle.c_expressions.specs.declared.marks.Mark.TheVariants as mark
-use Rattle.c_expressions.specs.Bare.{bare, closed_size, array_read}
+use Rattle.c_expressions.specs.Bare.{bare, array_read}
 use Rattle.c_grammar.specs.Marks as spec
 use Rattle.c_grammar.specs.Marks.{Mark, mark_at}
 use Rattle.c_grammar.specs.Reader.{Outcome, Gives, Refuses, and_then, Reader}
@@ -16,13 +16,13 @@ use Rattle.c_expressions.proofs.Gathered.{one_further}
 
 close_by : (go : Declarator → Place → Outcome Declarator) (inner : Declarator) (size : Expression) (at : ℕ) (r : Place) (m : Mark)
     → where_square_closes m (go (declarator_node.Array inner size at) (next r))
-        ≡ and_then (and_then (where_square_closes m (Gives size (next r))) (λ size r. Gives (declarator_node.Array inner size at) r)) go
+    ≡ and_then (and_then (where_square_closes m (Gives size (next r))) (λ size r. Gives (declarator_node.Array inner size at) r)) go
 close_by go inner size at r spec.SquareCloses = refl
 close_by go inner size at r _ = refl
 
 size_by : (kinds : List TokenKind) (go : Declarator → Place → Outcome Declarator) (inner : Declarator) (at : ℕ) (o : Outcome Expression)
     → and_then o (λ size r. where_square_closes (mark_at kinds r) (go (declarator_node.Array inner size at) (next r)))
-        ≡ and_then (and_then (and_then o (λ size r. where_square_closes (mark_at kinds r) (Gives size (next r)))) (λ size r. Gives (declarator_node.Array inner size at) r)) go
+    ≡ and_then (and_then (and_then o (λ size r. where_square_closes (mark_at kinds r) (Gives size (next r)))) (λ size r. Gives (declarator_node.Array inner size at) r)) go
 size_by kinds go inner at (Gives size r) = close_by go inner size at r (mark_at kinds r)
 size_by kinds go inner at Refuses = refl
 

@@ -5,12 +5,10 @@ use Rattle.c_tree.specs.declared.expression.Expression.{Expression}
 use Rattle.c_tree.specs.declared.expression.Expression.TheVariants as tree
 use Rattle.c_tree.specs.Places.{Place, next}
 use Rattle.c_expressions.specs.declared.fault.Fault.{Fault}
-use Rattle.c_grammar.specs.declared.kinds.Suffix.{Suffix}
-use Rattle.c_grammar.specs.declared.kinds.Suffix.TheVariants.{ClosesRound}
 use Rattle.c_grammar.specs.Kinds.{kind_at, suffix, Prefix, Opens, prefix, begins_type}
 use Rattle.c_grammar.specs.Reader.{Outcome, Gives, Refuses, and_then, where_round, bracketed, sized, sized_by}
 use Rattle.c_grammar.specs.Readers.{read, more, types}
-use Rattle.c_expressions.specs.Reads.{Reads, closed_expression, closed_type, grouped, cast, sized_type, sized_operand, opens_by, opens_type}
+use Rattle.c_expressions.specs.Reads.{Reads, grouped, cast, sized_type, sized_operand, opens_by, opens_type}
 use Rattle.c_expressions.proofs.Suffixed.{then_both, round_both}
 
 closed_on : {A B : Type 0} (kinds : List TokenKind) (o : Outcome A) (f : A → Place → Outcome B)
@@ -37,14 +35,14 @@ pub bracketed_group : (kinds : List TokenKind) (n least : ℕ) (p q : Place) (b 
     → Reads (grouped kinds n least q) r s → Reads (bracketed kinds (read kinds n) (types kinds n) (more kinds n) least p (begins_type kinds (next p))) r s
 bracketed_group kinds n least p q b r s e h w k =
     let whole : bracketed kinds (read kinds n) (types kinds n) (more kinds n) least p (begins_type kinds (next p)) ≡ grouped kinds n least q =
-        ap (bracketed kinds (read kinds n) (types kinds n) (more kinds n) least p) (begun kinds p q b false e h w) ∙ (group_on kinds n least p ∙ ap (grouped kinds n least) (sym e)) in
+    ap (bracketed kinds (read kinds n) (types kinds n) (more kinds n) least p) (begun kinds p q b false e h w) ∙ (group_on kinds n least p ∙ ap (grouped kinds n least) (sym e)) in
     subst (λ o. Reads o r s) (sym whole) k
 
 pub bracketed_cast : (kinds : List TokenKind) (n least : ℕ) (p q : Place) (b : Bool) (r : Result Expression Fault) (s : Place) → q ≡ next p → b ≡ begins_type kinds q → b ≡ true
     → nat_le least 13 ≡ true → Reads (cast kinds n least p.at q) r s → Reads (bracketed kinds (read kinds n) (types kinds n) (more kinds n) least p (begins_type kinds (next p))) r s
 bracketed_cast kinds n least p q b r s e h w l k =
     let whole : bracketed kinds (read kinds n) (types kinds n) (more kinds n) least p (begins_type kinds (next p)) ≡ cast kinds n least p.at q =
-        ap (bracketed kinds (read kinds n) (types kinds n) (more kinds n) least p) (begun kinds p q b true e h w) ∙ (cast_on kinds n least p l ∙ ap (cast kinds n least p.at) (sym e)) in
+    ap (bracketed kinds (read kinds n) (types kinds n) (more kinds n) least p) (begun kinds p q b true e h w) ∙ (cast_on kinds n least p l ∙ ap (cast kinds n least p.at) (sym e)) in
     subst (λ o. Reads o r s) (sym whole) k
 
 pub bracketed_none : (kinds : List TokenKind) (n least : ℕ) (p q : Place) (b : Bool) → q ≡ next p → b ≡ begins_type kinds q → b ≡ true
@@ -54,7 +52,7 @@ bracketed_none kinds n least p q b e h w l =
 
 sized_shape : (kinds : List TokenKind) (n least : ℕ) (p : Place) (s : Prefix)
     → sized kinds (read kinds n) (types kinds n) (more kinds n) least p s
-        ≡ sized_by kinds (read kinds n) (types kinds n) (more kinds n) least p (opens_by (begins_type kinds (next (next p))) s)
+    ≡ sized_by kinds (read kinds n) (types kinds n) (more kinds n) least p (opens_by (begins_type kinds (next (next p))) s)
 sized_shape kinds n least p Opens = refl
 sized_shape kinds n least p _ = refl
 
@@ -65,14 +63,14 @@ pub sized_as_type : (kinds : List TokenKind) (n least : ℕ) (p q t : Place) (b 
     → Reads (sized_type kinds n least p.at t) r s → Reads (sized kinds (read kinds n) (types kinds n) (more kinds n) least p (prefix (kind_at kinds (next p)))) r s
 sized_as_type kinds n least p q t b r s e h w f k =
     let whole : sized kinds (read kinds n) (types kinds n) (more kinds n) least p (prefix (kind_at kinds (next p))) ≡ sized_type kinds n least p.at t =
-        sized_shape kinds n least p (prefix (kind_at kinds (next p))) ∙ (ap (sized_by kinds (read kinds n) (types kinds n) (more kinds n) least p) (opened kinds p q b true e h w)
-        ∙ (closed_on kinds (types kinds n (next (next p))) (λ t q. more kinds n 14 least (tree.SizeofType t p.at) q) ∙ ap (sized_type kinds n least p.at) (sym (f ∙ ap next e)))) in
+    sized_shape kinds n least p (prefix (kind_at kinds (next p))) ∙ (ap (sized_by kinds (read kinds n) (types kinds n) (more kinds n) least p) (opened kinds p q b true e h w)
+    ∙ (closed_on kinds (types kinds n (next (next p))) (λ t q. more kinds n 14 least (tree.SizeofType t p.at) q) ∙ ap (sized_type kinds n least p.at) (sym (f ∙ ap next e)))) in
     subst (λ o. Reads o r s) (sym whole) k
 
 pub sized_as_operand : (kinds : List TokenKind) (n least : ℕ) (p q : Place) (b : Bool) (r : Result Expression Fault) (s : Place) → q ≡ next p → b ≡ opens_type kinds q → b ≡ false
     → Reads (sized_operand kinds n least p.at q) r s → Reads (sized kinds (read kinds n) (types kinds n) (more kinds n) least p (prefix (kind_at kinds (next p)))) r s
 sized_as_operand kinds n least p q b r s e h w k =
     let whole : sized kinds (read kinds n) (types kinds n) (more kinds n) least p (prefix (kind_at kinds (next p))) ≡ sized_operand kinds n least p.at q =
-        sized_shape kinds n least p (prefix (kind_at kinds (next p))) ∙ (ap (sized_by kinds (read kinds n) (types kinds n) (more kinds n) least p) (opened kinds p q b false e h w)
-        ∙ ap (sized_operand kinds n least p.at) (sym e)) in
+    sized_shape kinds n least p (prefix (kind_at kinds (next p))) ∙ (ap (sized_by kinds (read kinds n) (types kinds n) (more kinds n) least p) (opened kinds p q b false e h w)
+    ∙ ap (sized_operand kinds n least p.at) (sym e)) in
     subst (λ o. Reads o r s) (sym whole) k

@@ -1,5 +1,5 @@
 -- One step of the readers.
-use Rattle.std.proofs.Common.{◌≡◌, ℕ, zero, suc, ◌+◌, ◌-◌, ◌<◌, List, ap, ◌∙◌, arith}
+use Rattle.std.proofs.Common.{◌≡◌, ℕ, suc, ◌+◌, ◌-◌, ◌<◌, List, ap, ◌∙◌, arith}
 use Rattle.c_model.specs.declared.token.TokenKind.{TokenKind}
 use Rattle.c_tree.specs.Places.{Place}
 use Rattle.c_grammar.specs.Kinds.{kind_at, prefix}
@@ -26,7 +26,7 @@ specifiers_none kinds n p e = ap (λ m. specifiers kinds m p) e
 
 pub specifiers_deeper : (kinds : List TokenKind) (n : ℕ) (p : Place) → 0 < n
     → specifiers kinds n p
-        ≡ all_specifiers kinds (struct_with kinds (read kinds (n - 1)) (specifiers kinds (n - 1)) (perhaps kinds (n - 1)) (n - 1)) (enum_with kinds (read kinds (n - 1)) (n - 1)) (n - 1 + 1) p
+    ≡ all_specifiers kinds (struct_with kinds (read kinds (n - 1)) (specifiers kinds (n - 1)) (perhaps kinds (n - 1)) (n - 1)) (enum_with kinds (read kinds (n - 1)) (n - 1)) (n - 1 + 1) p
 unfolding specifiers
 specifiers_deeper kinds n p h =
     let one : suc (n - 1) ≡ n - 1 + 1 = omega arith in

@@ -5,7 +5,7 @@ use Rattle.c_tree.specs.Places.{Place, next}
 use Rattle.c_grammar.specs.declared.kinds.Suffix.{Suffix}
 use Rattle.c_grammar.specs.declared.kinds.Suffix.TheVariants.{ClosesRound, ClosesSquare, Colons}
 use Rattle.c_grammar.specs.Kinds.{kind_at, suffix, Prefix, Names, prefix}
-use Rattle.c_grammar.specs.Reader.{Outcome, Gives, Refuses, and_then, where_round, where_square, where_colon, where_name}
+use Rattle.c_grammar.specs.Reader.{Outcome, Gives, and_then, where_round, where_square, where_colon, where_name}
 use Rattle.c_expressions.specs.Reads.{closes_round, closes_square, colon, name_read}
 
 round_by : {B : Type 0} (s : Suffix) (r : Place) (o : Outcome B) → where_round s o ≡ and_then (where_round s (Gives (tt {0}) r)) (λ u q. o)

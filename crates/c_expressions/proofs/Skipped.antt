@@ -1,5 +1,5 @@
 -- What has no meaning, and qualifiers, one by one.
-use Rattle.std.proofs.Common.{◌≡◌, ℕ, zero, suc, ◌+◌, ◌-◌, ◌<◌, ◌≤◌, Bool, true, false, List, [], ◌∷◌, ◌++◌, refl, sym, ◌∙◌, ap, append_assoc, arith}
+use Rattle.std.proofs.Common.{◌≡◌, ℕ, ◌+◌, ◌-◌, ◌<◌, ◌≤◌, true, false, List, [], ◌∷◌, ◌++◌, refl, sym, ◌∙◌, ap, arith}
 use Rattle.c_model.specs.declared.token.TokenKind.{TokenKind}
 use Rattle.c_tree.specs.declared.expression.Qualifier.{Qualifier}
 use Rattle.c_tree.specs.Places.{Place, next}

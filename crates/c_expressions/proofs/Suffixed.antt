@@ -1,5 +1,5 @@
 -- An operand with its suffixes, one by one.
-use Rattle.std.proofs.Common.{◌≡◌, ℕ, zero, suc, ◌+◌, ◌-◌, ◌<◌, List, [], ◌∷◌, refl, sym, ◌∙◌, ap, arith}
+use Rattle.std.proofs.Common.{◌≡◌, ℕ, ◌+◌, List, ◌∷◌, refl}
 use Rattle.c_model.specs.declared.token.TokenKind.{TokenKind}
 use Rattle.c_tree.specs.declared.expression.Expression.{Expression}
 use Rattle.c_tree.specs.declared.expression.Expression.TheVariants as tree
@@ -7,10 +7,9 @@ use Rattle.c_tree.specs.Places.{Place, next}
 use Rattle.c_tree.specs.Signs.{level}
 use Rattle.c_grammar.specs.declared.kinds.Suffix.{Suffix}
 use Rattle.c_grammar.specs.declared.kinds.Suffix.TheVariants.{Infix, Assigns, Asks, Commas, Subscripts, Calls, Selects, Points, Steps, ClosesRound, ClosesSquare, Colons, NoSuffix}
-use Rattle.c_grammar.specs.Kinds.{kind_at, suffix, goes_on, Prefix, Names, prefix}
-use Rattle.c_grammar.specs.Reader.{Outcome, Gives, Refuses, and_then, where_round, where_square, where_colon, where_name, Reader, Continues, Lists, items, call_of, choice_of, suffix_taken}
-use Rattle.c_grammar.specs.Readers.{read, more}
-use Rattle.c_expressions.specs.Reads.{stop, suffixed}
+use Rattle.c_grammar.specs.Kinds.{kind_at, suffix, Prefix, Names, prefix}
+use Rattle.c_grammar.specs.Reader.{Outcome, Gives, Refuses, and_then, where_round, where_square, where_colon, where_name, Reader, Continues, Lists, call_of, choice_of, suffix_taken}
+use Rattle.c_expressions.specs.Reads.{stop}
 use Rattle.c_grammar.specs.Suffixes.{reached}
 
 -- what stands behind goes on alike
@@ -74,4 +73,3 @@ taken_goes_on kinds rd list go least x q ClosesRound = refl
 taken_goes_on kinds rd list go least x q ClosesSquare = refl
 taken_goes_on kinds rd list go least x q Colons = refl
 taken_goes_on kinds rd list go least x q NoSuffix = refl
-

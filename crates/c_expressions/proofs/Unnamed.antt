@@ -1,5 +1,5 @@
 -- What stands for a declarator in a type name, step by step.
-use Rattle.std.proofs.Common.{◌≡◌, ℕ, ◌-◌, ◌<◌, Bool, true, false, List, refl, sym, ◌∙◌, ap}
+use Rattle.std.proofs.Common.{◌≡◌, ℕ, ◌-◌, ◌<◌, true, false, List, refl, sym, ◌∙◌, ap}
 use Rattle.c_model.specs.declared.token.TokenKind.{TokenKind}
 use Rattle.c_tree.specs.declared.expression.Declarator.{Declarator}
 use Rattle.c_tree.specs.declared.expression.Declarator.TheVariants as declarator_node

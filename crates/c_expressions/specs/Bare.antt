@@ -16,7 +16,7 @@ use Rattle.c_expressions.specs.declared.skips.Bracket.{Bracket}
 use Rattle.c_expressions.specs.declared.skips.Bracket.TheVariants as bracket
 use Rattle.c_expressions.specs.declared.skips.Bracketing.{Bracketing}
 use Rattle.c_expressions.specs.declared.skips.Bracketing.TheVariants as bracketing
-use Rattle.c_grammar.specs.Reader.{Outcome, Gives, Refuses, and_then}
+use Rattle.c_grammar.specs.Reader.{Outcome, Gives, and_then}
 use Rattle.c_grammar.specs.ReadTypes.{where_square_closes, balanced, attribute}
 use Rattle.c_grammar.specs.Readers.{read}
 

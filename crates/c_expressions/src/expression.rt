@@ -1,23 +1,21 @@
 //! Expressions, by the levels of their operators (C11 6.5).
 
-ghost use Rattle.std.specs.Prelude.{◌≡◌, ◌≤◌, ◌<◌, ◌+◌, [], ◌∷◌, IfOk};
-ghost use Rattle.c_tree.specs.Places.{next};
+ghost use Rattle.std.specs.Prelude.{◌≡◌, ◌≤◌, ◌<◌, [], ◌∷◌, IfOk};
 ghost use Rattle.c_tree.specs.SpellsText.{kinds_of};
 ghost use Rattle.c_tree.specs.declared.expression.Expression.TheVariants as tree;
 ghost use Rattle.c_grammar.specs.declared.kinds.Suffix.TheVariants as Suffix;
-ghost use Rattle.c_grammar.specs.Kinds.{kind_at, prefix, begins_type};
 ghost use Rattle.c_grammar.specs.Reader as spec;
 ghost use Rattle.c_grammar.specs.Readers as readers;
-ghost use Rattle.c_expressions.specs.Reads.{Reads, operand, stop, suffixed, IsSuffix, IsNested};
+ghost use Rattle.c_expressions.specs.Reads.{Reads, stop, suffixed, IsSuffix, IsNested};
 
 use crate::fault::{Fault, refuse};
 use crate::grammar::Grammar;
-use c_grammar::{ASSIGNMENT, CAST, CONDITIONAL, POSTFIX, Suffix, UNARY, level};
 use crate::parts::{Perhaps, Specified};
-use crate::tokens::{close_round, close_square, colon, is_start, name, suffix};
-use c_model::{Token, TokenKind};
+use crate::tokens::{close_round, close_square, colon, name, suffix};
+use c_grammar::{ASSIGNMENT, CONDITIONAL, Suffix, level};
+use c_model::Token;
 use c_scopes::Cursor;
-use c_tree::{AssignOperator, BinaryOperator, Expression, Step, UnaryOperator};
+use c_tree::{AssignOperator, BinaryOperator, Expression, Step};
 use kv_base::NoMemory;
 use sqlite_items::{Boxed, Items};
 use std::alloc::Global;
@@ -57,8 +55,7 @@ impl<
     R: Fn(Global, &[Token], usize, u8, &mut Cursor) -> Result<Expression, Fault>,
     S: Fn(Global, &[Token], usize, &mut Cursor) -> Result<Specified, Fault>,
     P: Fn(Global, &[Token], usize, &mut Cursor) -> Result<Perhaps, Fault>,
-> Grammar<'t, R, S, P>
-{
+> Grammar<'t, R, S, P> {
     /// Assignment expressions with a comma between each two.
     fn items(&self, depth: usize, place: &mut Cursor) -> Result<Items<Expression>, Fault>
         requires nested { IsNested self.now.depth (R.pre self.now.read) (R.post self.now.read) (S.pre self.now.specifiers) (S.post self.now.specifiers) (P.pre self.now.perhaps) (P.post self.now.perhaps) }
@@ -123,7 +120,12 @@ impl<
         })
     }
 
-    fn chosen(&self, depth: usize, test: Expression, place: &mut Cursor) -> Result<Expression, Fault>
+    fn chosen(
+        &self,
+        depth: usize,
+        test: Expression,
+        place: &mut Cursor,
+    ) -> Result<Expression, Fault>
         requires nested { IsNested self.now.depth (R.pre self.now.read) (R.post self.now.read) (S.pre self.now.specifiers) (S.post self.now.specifiers) (P.pre self.now.perhaps) (P.post self.now.perhaps) }
         requires within { depth ≤ self.now.depth }
         requires here { place.old.at < usize.MAX }
@@ -232,7 +234,12 @@ impl<
     }
 
     #[tactic(auto, using(crate::proofs::Single::name_then))]
-    fn selected(&self, depth: usize, object: Expression, place: &mut Cursor) -> Result<Expression, Fault>
+    fn selected(
+        &self,
+        depth: usize,
+        object: Expression,
+        place: &mut Cursor,
+    ) -> Result<Expression, Fault>
         requires here { place.old.at < usize.MAX }
         ensures { Reads (suffixed (kinds_of self.now.tokens.now) depth object place.old Suffix.Selects) result place.new }
     {
@@ -247,7 +254,12 @@ impl<
     }
 
     #[tactic(auto, using(crate::proofs::Single::name_then))]
-    fn pointed(&self, depth: usize, pointer: Expression, place: &mut Cursor) -> Result<Expression, Fault>
+    fn pointed(
+        &self,
+        depth: usize,
+        pointer: Expression,
+        place: &mut Cursor,
+    ) -> Result<Expression, Fault>
         requires here { place.old.at < usize.MAX }
         ensures { Reads (suffixed (kinds_of self.now.tokens.now) depth pointer place.old Suffix.Points) result place.new }
     {
@@ -261,7 +273,13 @@ impl<
         })
     }
 
-    fn stepped(&self, depth: usize, operand: Expression, step: Step, place: &mut Cursor) -> Result<Expression, Fault>
+    fn stepped(
+        &self,
+        depth: usize,
+        operand: Expression,
+        step: Step,
+        place: &mut Cursor,
+    ) -> Result<Expression, Fault>
         requires here { place.old.at < usize.MAX }
         ensures { Reads (suffixed (kinds_of self.now.tokens.now) depth operand place.old (Suffix.Steps step)) result place.new }
     {

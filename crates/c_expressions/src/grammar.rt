@@ -1,7 +1,7 @@
 //! The rules of the grammar take what reads expressions, specifiers and declarators as parameters, so that each rule is
 //! proved by itself.
 
-ghost use Rattle.std.specs.Prelude.{◌≡◌, ◌≤◌};
+ghost use Rattle.std.specs.Prelude.{◌≤◌};
 ghost use Rattle.c_tree.specs.SpellsText.{kinds_of};
 ghost use Rattle.c_grammar.specs.Readers as spec;
 ghost use Rattle.c_expressions.specs.Reads.{Reads, ReadsAs, specified_of, perhaps_of, IsNested};
@@ -33,8 +33,7 @@ impl<
     R: Fn(Global, &[Token], usize, u8, &mut Cursor) -> Result<Expression, Fault>,
     S: Fn(Global, &[Token], usize, &mut Cursor) -> Result<Specified, Fault>,
     P: Fn(Global, &[Token], usize, &mut Cursor) -> Result<Perhaps, Fault>,
-> Grammar<'t, R, S, P>
-{
+> Grammar<'t, R, S, P> {
     pub fn read(&self, depth: usize, least: u8, place: &mut Cursor) -> Result<Expression, Fault>
         requires nested { IsNested self.now.depth (R.pre self.now.read) (R.post self.now.read) (S.pre self.now.specifiers) (S.post self.now.specifiers) (P.pre self.now.perhaps) (P.post self.now.perhaps) }
         requires within { depth ≤ self.now.depth }

@@ -1,9 +1,8 @@
 //! What an expression begins with (C11 6.5.1, 6.5.3, 6.5.4).
 
-ghost use Rattle.std.specs.Prelude.{◌≡◌, ◌≤◌, ◌<◌, ◌+◌, IfOk, IsTrue};
+ghost use Rattle.std.specs.Prelude.{◌≡◌, ◌<◌, IsTrue};
 ghost use Rattle.c_tree.specs.Places.{next};
 ghost use Rattle.c_tree.specs.SpellsText.{kinds_of};
-ghost use Rattle.c_tree.specs.declared.expression.Expression.TheVariants as tree;
 ghost use Rattle.c_grammar.specs.Kinds.{kind_at, prefix, prefix_of, begins_type, Names, Constants, Texts, StepsFirst, Operates};
 ghost use Rattle.c_grammar.specs.Reader as spec;
 ghost use Rattle.c_grammar.specs.Readers as readers;
@@ -11,9 +10,9 @@ ghost use Rattle.c_expressions.specs.Reads.{Reads, operand, IsNested, opens_type
 
 use crate::fault::{Fault, refuse};
 use crate::grammar::Grammar;
-use c_grammar::{CAST, POSTFIX, UNARY};
 use crate::parts::{Perhaps, Specified};
 use crate::tokens::{close_round, is_start};
+use c_grammar::{CAST, POSTFIX, UNARY};
 use c_model::{Token, TokenKind};
 use c_scopes::Cursor;
 use c_tree::{Expression, Step, TypeName, UnaryOperator};
@@ -27,8 +26,7 @@ impl<
     R: Fn(Global, &[Token], usize, u8, &mut Cursor) -> Result<Expression, Fault>,
     S: Fn(Global, &[Token], usize, &mut Cursor) -> Result<Specified, Fault>,
     P: Fn(Global, &[Token], usize, &mut Cursor) -> Result<Perhaps, Fault>,
-> Grammar<'t, R, S, P>
-{
+> Grammar<'t, R, S, P> {
     /// An expression with the `)` behind it.
     #[tactic(auto, using(crate::proofs::Single::round_then))]
     fn closed_expression(&self, place: &mut Cursor) -> Result<Expression, Fault>
@@ -78,7 +76,12 @@ impl<
     {
         let at = place.at();
         place.skip();
-        self.more(POSTFIX, least, Expression::Constant { kind, value, at }, place)
+        self.more(
+            POSTFIX,
+            least,
+            Expression::Constant { kind, value, at },
+            place,
+        )
     }
 
     fn text(&self, least: u8, place: &mut Cursor) -> Result<Expression, Fault>
@@ -99,7 +102,12 @@ impl<
         let at = place.at();
         place.skip();
         let operand = Boxed::new(self.alloc, self.read(self.depth, UNARY, place)?)?;
-        self.more(UNARY, least, Expression::Prefix { step, operand, at }, place)
+        self.more(
+            UNARY,
+            least,
+            Expression::Prefix { step, operand, at },
+            place,
+        )
     }
 
     fn operated(
@@ -115,7 +123,16 @@ impl<
         let at = place.at();
         place.skip();
         let operand = Boxed::new(self.alloc, self.read(self.depth, CAST, place)?)?;
-        self.more(UNARY, least, Expression::Unary { operator, operand, at }, place)
+        self.more(
+            UNARY,
+            least,
+            Expression::Unary {
+                operator,
+                operand,
+                at,
+            },
+            place,
+        )
     }
 
     /// `( expression )`, behind the `(`.
@@ -184,7 +201,12 @@ impl<
         ensures { Reads (sized_type (kinds_of self.now.tokens.now) self.now.depth least at place.old) result place.new }
     {
         let type_name = Boxed::new(self.alloc, self.closed_type(place)?)?;
-        self.more(UNARY, least, Expression::SizeofType { type_name, at }, place)
+        self.more(
+            UNARY,
+            least,
+            Expression::SizeofType { type_name, at },
+            place,
+        )
     }
 
     /// `sizeof operand`, behind `sizeof`, which stands at `at`.
@@ -193,7 +215,12 @@ impl<
         ensures { Reads (sized_operand (kinds_of self.now.tokens.now) self.now.depth least at place.old) result place.new }
     {
         let operand = Boxed::new(self.alloc, self.read(self.depth, UNARY, place)?)?;
-        self.more(UNARY, least, Expression::SizeofExpression { operand, at }, place)
+        self.more(
+            UNARY,
+            least,
+            Expression::SizeofExpression { operand, at },
+            place,
+        )
     }
 
     /// What begins with `sizeof`.

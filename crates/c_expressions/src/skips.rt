@@ -1,7 +1,6 @@
 //! What has no meaning: `__extension__`, and `__attribute__` with what stands in its brackets.
 
 ghost use Rattle.std.specs.Prelude.{◌≡◌, ◌<◌, []};
-ghost use Rattle.c_tree.specs.Signs as tree;
 ghost use Rattle.c_tree.specs.SpellsText.{kinds_of};
 ghost use Rattle.c_expressions.specs.Bare.{bare_bracketing, IsToken, attribute_alone};
 ghost use Rattle.c_grammar.specs.Kinds.{kind_at};
@@ -52,12 +51,7 @@ fn bracketing_at(tokens: &[Token], place: &Cursor) -> Bracketing
 
 /// Goes on to the first bracket that closes none of those on the way.
 #[tactic(auto, using(crate::proofs::Skipped::balanced_opens, crate::proofs::Skipped::balanced_passes, crate::proofs::Skipped::balanced_no_token, crate::proofs::Skipped::balanced_ends, crate::proofs::Skipped::balanced_closes, crate::proofs::Skipped::balanced_differs, crate::proofs::Skipped::balanced_none))]
-fn balanced(
-    alloc: Global,
-    tokens: &[Token],
-    limit: usize,
-    place: &mut Cursor,
-) -> Result<(), Fault>
+fn balanced(alloc: Global, tokens: &[Token], limit: usize, place: &mut Cursor) -> Result<(), Fault>
     ensures { Reads (spec.balanced (kinds_of tokens.now) limit [] place.old) result place.new }
 {
     let mut pending = Stack::new(alloc);
@@ -79,12 +73,7 @@ fn balanced(
 
 /// What stands behind `__attribute__`.
 #[tactic(auto, using(crate::proofs::Skipped::opens_taken, crate::proofs::Skipped::opens_missing, crate::proofs::Skipped::closes_taken, crate::proofs::Skipped::closes_missing))]
-fn attribute(
-    alloc: Global,
-    tokens: &[Token],
-    limit: usize,
-    place: &mut Cursor,
-) -> Result<(), Fault>
+fn attribute(alloc: Global, tokens: &[Token], limit: usize, place: &mut Cursor) -> Result<(), Fault>
     ensures { Reads (attribute_alone (kinds_of tokens.now) limit place.old) result place.new }
 {
     take(tokens, Mark::RoundOpens, place)?;

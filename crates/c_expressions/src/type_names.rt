@@ -1,6 +1,6 @@
 //! Qualifiers (C11 6.7.3) and type names (6.7.7).
 
-ghost use Rattle.std.specs.Prelude.{◌≡◌, ◌≤◌, ◌<◌};
+ghost use Rattle.std.specs.Prelude.{◌≡◌, ◌<◌};
 ghost use Rattle.c_tree.specs.Spells.{InParameter, InTypeName, may_qualify, may_all_qualify};
 ghost use Rattle.c_tree.specs.SpellsText.{kinds_of};
 ghost use Rattle.c_expressions.specs.Bare.{array_read, closed_size};
@@ -10,9 +10,9 @@ ghost use Rattle.c_expressions.specs.Reads.{Reads, IsNested};
 
 use crate::fault::{Fault, refuse};
 use crate::grammar::Grammar;
-use c_grammar::CONDITIONAL;
 use crate::marks::{Mark, mark_at, take};
 use crate::parts::{Perhaps, Specified};
+use c_grammar::CONDITIONAL;
 use c_model::Token;
 use c_scopes::Cursor;
 use c_tree::{Declarator, Expression, Qualifier, TypeName};
@@ -76,8 +76,7 @@ impl<
     R: Fn(Global, &[Token], usize, u8, &mut Cursor) -> Result<Expression, Fault>,
     S: Fn(Global, &[Token], usize, &mut Cursor) -> Result<Specified, Fault>,
     P: Fn(Global, &[Token], usize, &mut Cursor) -> Result<Perhaps, Fault>,
-> Grammar<'t, R, S, P>
-{
+> Grammar<'t, R, S, P> {
     /// The size of an array, with the `]` behind it.
     #[tactic(auto, using(crate::proofs::Skipped::square_closes_taken, crate::proofs::Skipped::square_closes_missing))]
     pub fn closed_size(&self, place: &mut Cursor) -> Result<Expression, Fault>
@@ -103,7 +102,12 @@ impl<
     }
 
     /// The arrays of a type name, as many as there are.
-    fn arrays(&self, limit: usize, inner: Declarator, place: &mut Cursor) -> Result<Declarator, Fault>
+    fn arrays(
+        &self,
+        limit: usize,
+        inner: Declarator,
+        place: &mut Cursor,
+    ) -> Result<Declarator, Fault>
         requires nested { IsNested self.now.depth (R.pre self.now.read) (R.post self.now.read) (S.pre self.now.specifiers) (S.post self.now.specifiers) (P.pre self.now.perhaps) (P.post self.now.perhaps) }
         ensures { let kinds = kinds_of self.now.tokens.now in Reads (spec.arrays kinds (readers.read kinds self.now.depth) limit inner place.old) result place.new }
     {

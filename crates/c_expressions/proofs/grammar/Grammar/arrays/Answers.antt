@@ -12,7 +12,7 @@ returns-in_err-whole-in-SquareOpens g c =
     let kinds = kinds_of c.args.self.now.tokens.now in
     let d = c.args.self.now.depth in
     let refuses : array_read kinds d c.loop-turn.whole c.loop-turn.place ≡ Refuses → arrays kinds (read kinds d) c.args.limit c.args.inner c.args.place.now ≡ Refuses =
-        λ h. c.loop-turn.invariant ∙ arrays_refused kinds d c.args.limit c.loop-turn._turn c.loop-turn.whole c.loop-turn.place (omega arith) (sym c.in-SquareOpens.ensures.value) h in
+    λ h. c.loop-turn.invariant ∙ arrays_refused kinds d c.args.limit c.loop-turn._turn c.loop-turn.whole c.loop-turn.place (omega arith) (sym c.in-SquareOpens.ensures.value) h in
     first_of (search (rules, refuses), grind (arith, refuses))
 
 pub returns-in_default : goal.returns-in_default

@@ -1,4 +1,4 @@
-use Rattle.std.proofs.Common.{◌≡◌, ◌-◌, ◌∙◌, arith, rules}
+use Rattle.std.proofs.Common.{◌≡◌, ◌∙◌, arith, rules}
 use Rattle.c_tree.specs.SpellsText.{kinds_of}
 use Rattle.c_grammar.specs.Reader.{Refuses, items}
 use Rattle.c_grammar.specs.Readers.{read}
@@ -17,7 +17,7 @@ pub returns-in_err-part : goal.returns-in_err-part
 returns-in_err-part g c =
     let kinds = kinds_of c.args.self.now.tokens.now in
     let refuses : read kinds c.args.depth 1 c.loop-turn.place ≡ Refuses → items kinds (read kinds c.args.depth) c.args.depth c.args.place.now ≡ Refuses =
-        λ h. c.loop-turn.invariant ∙ items_refused kinds (read kinds c.args.depth) c.args.depth c.loop-turn._turn _ _ (omega arith) h in
+    λ h. c.loop-turn.invariant ∙ items_refused kinds (read kinds c.args.depth) c.args.depth c.loop-turn._turn _ _ (omega arith) h in
     first_of (search (rules, refuses), grind (arith, refuses))
 
 pub returns-then-ne : goal.returns-then-ne

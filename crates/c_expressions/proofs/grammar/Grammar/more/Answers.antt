@@ -16,9 +16,9 @@ pub returns-in_err-left : goal.returns-in_err-left
 returns-in_err-left g c =
     let kinds = kinds_of c.args.self.now.tokens.now in
     let refuses : suffixed kinds (c.args.self.now.depth - c.loop-turn.turn - 1) c.loop-turn.left c.loop-turn.place c.suffix-next.result ≡ Refuses
-            → more kinds c.args.self.now.depth c.args.reached c.args.least c.args.left c.args.place.now ≡ Refuses =
-        λ h. c.loop-turn.invariant ∙ more_refused kinds c.args.self.now.depth c.loop-turn.turn (c.args.self.now.depth - c.loop-turn.turn - 1) _ _ _ _ c.suffix-next.result
-            (omega arith) (omega arith) c.suffix-next.ensures.value (search rules) h in
+    → more kinds c.args.self.now.depth c.args.reached c.args.least c.args.left c.args.place.now ≡ Refuses =
+    λ h. c.loop-turn.invariant ∙ more_refused kinds c.args.self.now.depth c.loop-turn.turn (c.args.self.now.depth - c.loop-turn.turn - 1) _ _ _ _ c.suffix-next.result
+    (omega arith) (omega arith) c.suffix-next.ensures.value (search rules) h in
     first_of (search (rules, refuses), grind (arith, refuses))
 
 pub returns-then-not-goes_on : goal.returns-then-not-goes_on
