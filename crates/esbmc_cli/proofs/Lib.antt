@@ -1,5 +1,3 @@
 pub mod Growth
 pub mod Opened
-pub mod EarlyTokens
-pub mod EarlyGrammar
-pub mod EarlyNames
+pub mod Found

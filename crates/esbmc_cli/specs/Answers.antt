@@ -8,7 +8,9 @@ use Rattle.c_model.specs.declared.checks.CheckKind.{CheckKind}
 use Rattle.esbmc_cli.specs.declared.outcome.Outcome.{Outcome}
 use Rattle.esbmc_cli.specs.Decided.{SpellsSafe, SpellsBroken}
 use Rattle.esbmc_cli.specs.Source.{Holds, HasFile}
-use Rattle.esbmc_cli.specs.Texts.{successful_text, failed_text, usage_text, not_yet_text, read_fault_text, missing_text}
+use Rattle.c_source.specs.declared.refusal.Refusal.{Refusal}
+use Rattle.c_source.specs.Sources.{Refuses}
+use Rattle.esbmc_cli.specs.Texts.{successful_text, failed_text, usage_text, refused_text, read_fault_text, missing_text}
 
 -- ---- the words
 
@@ -73,12 +75,13 @@ pub record IsUsage (file : Option (List ℕ)) (prints : List ℕ → Type 0) : T
   pub named : file ≡ None
   pub text : prints usage_text
 
--- 5: where the folder is told, it has the named file
-pub record IsNotYet (file : Option (List ℕ)) (told : Option Folder) (prints : List ℕ → Type 0) : Type 0 where
+-- 5: where the folder is told, the named file is refused for the printed cause
+pub record IsRefused (file : Option (List ℕ)) (told : Option Folder) (prints : List ℕ → Type 0) : Type 0 where
   pub name : List ℕ
+  pub refusal : Refusal
   pub named : file ≡ Some name
-  pub found : HasFile told name (λ source. Unit {0})
-  pub text : prints not_yet_text
+  pub refused : HasFile told name (λ source. Refuses source refusal)
+  pub text : prints (refused_text refusal)
 
 -- 6: a file is named, and the count of the folder's faults rose
 pub record IsReadFault (file : Option (List ℕ)) (fault : Type 0) (prints : List ℕ → Type 0) : Type 0 where

@@ -5,9 +5,9 @@ use Rattle.kv_port.specs.Folder.{Folder, Lacks}
 use Rattle.c_model.specs.declared.checks.CheckKind.{CheckKind}
 use Rattle.c_model.specs.declared.program.Program.{Program}
 use Rattle.c_model.specs.Machine.{Breaks, Safe}
-use Rattle.esbmc_cli.specs.Early.{Early}
+use Rattle.c_source.specs.Sources.{Early, Refuses}
 use Rattle.esbmc_cli.specs.declared.decide.Decided.{Decided}
-use Rattle.esbmc_cli.specs.declared.decide.Decided.TheVariants.{Successful, Failed, NotYet, Missing, ReadFault, NoMemory}
+use Rattle.esbmc_cli.specs.declared.decide.Decided.TheVariants.{Successful, Failed, Refused, Missing, ReadFault, NoMemory}
 use Rattle.esbmc_cli.specs.Source.{Holds, HasFile}
 
 -- the bytes spell a straight program of which no inputs break a check
@@ -22,7 +22,7 @@ SpellsBroken check line source = (program : Program) × Early source program × 
 abbrev pub IsRightOf : List ℕ → Decided → Type 0
 IsRightOf source Successful = SpellsSafe source
 IsRightOf source (Failed check line) = SpellsBroken check line source
-IsRightOf source NotYet = Unit {0}
+IsRightOf source (Refused refusal) = Refuses source refusal
 IsRightOf source Missing = ⊥
 IsRightOf source ReadFault = ⊥
 IsRightOf source NoMemory = Unit {0}
@@ -31,7 +31,21 @@ IsRightOf source NoMemory = Unit {0}
 abbrev pub IsRight : Option Folder → List ℕ → Type 0 → Decided → Type 0
 IsRight told name fault Successful = (source : List ℕ) × Holds told name source × SpellsSafe source
 IsRight told name fault (Failed check line) = (source : List ℕ) × Holds told name source × SpellsBroken check line source
-IsRight told name fault NotYet = HasFile told name (λ source. Unit {0})
+IsRight told name fault (Refused refusal) = HasFile told name (λ source. Refuses source refusal)
 IsRight told name fault Missing = Lacks told name
 IsRight told name fault ReadFault = fault
 IsRight told name fault NoMemory = Unit {0}
+
+-- what may be found of a file that is refused, and of one that spells a straight program
+abbrev pub MayRefuse : Decided → Type 0
+MayRefuse (Refused refusal) = Unit {0}
+MayRefuse ReadFault = Unit {0}
+MayRefuse NoMemory = Unit {0}
+MayRefuse _ = ⊥
+
+abbrev pub MayVerify : Decided → Type 0
+MayVerify Successful = Unit {0}
+MayVerify (Failed check line) = Unit {0}
+MayVerify ReadFault = Unit {0}
+MayVerify NoMemory = Unit {0}
+MayVerify _ = ⊥

@@ -1,13 +1,18 @@
 //! What is found of a named file, before anything is printed.
 
-ghost use Rattle.std.specs.Prelude.{◌≡◌, ◌≤◌, length};
+ghost use Rattle.std.specs.Prelude.{◌≡◌, ◌≤◌, ℕ, List, Some};
+ghost use Rattle.std.specs.FinMap.{get};
 ghost use Rattle.kv_port.specs.Causes.{Rose};
-ghost use Rattle.esbmc_cli.specs.Decided.{IsRight, IsRightOf};
+ghost use Rattle.kv_port.specs.Folder.{Folder};
+ghost use Rattle.c_model.specs.declared.program.Program.{Program};
+ghost use Rattle.c_source.specs.declared.refusal.Refusal.{Refusal};
+ghost use Rattle.c_source.specs.Sources.{Early, Refuses};
+ghost use Rattle.esbmc_cli.specs.Decided.{IsRight, IsRightOf, MayRefuse, MayVerify};
 
-use crate::early::{EarlyFault, read_early};
-use crate::source::{Unread, read_file};
+use crate::source::{self, read_file};
 use c_model::CheckKind;
 use c_replay::{RunEnd, replay};
+use c_source::{Refusal, Unread, read_source, spells_or_refuses};
 use kv_port::Files;
 use std::alloc::Global;
 
@@ -18,8 +23,8 @@ pub enum Decided {
     Successful,
     /// A straight program that breaks this check at this line.
     Failed { check: CheckKind, line: u32 },
-    /// The file is there, and isn't read as a straight program.
-    NotYet,
+    /// A source that is refused.
+    Refused { refusal: Refusal },
     /// There is no such file.
     Missing,
     /// A call of the folder failed.
@@ -28,15 +33,14 @@ pub enum Decided {
     NoMemory,
 }
 
-// What is found of the bytes.
+/// What is found of the bytes.
 fn decide_bytes(alloc: Global, bytes: &[u8]) -> Decided
-    requires { length bytes.now ≤ 65536 }
     ensures { IsRightOf bytes.now result }
 {
-    let program = match read_early(alloc, bytes) {
+    let program = match read_source(alloc, bytes) {
         Ok(program) => program,
-        Err(EarlyFault::NotYet) => return Decided::NotYet,
-        Err(EarlyFault::NoMemory) => return Decided::NoMemory,
+        Err(Unread::Refused { refusal }) => return Decided::Refused { refusal },
+        Err(Unread::NoMemory) => return Decided::NoMemory,
     };
     match replay(alloc, &program, &[]) {
         Ok(RunEnd::Ended) => Decided::Successful,
@@ -45,17 +49,35 @@ fn decide_bytes(alloc: Global, bytes: &[u8]) -> Decided
     }
 }
 
-/// Reads the named file and runs its one execution.
-pub fn decide<F: Files>(alloc: Global, files: &mut F, name: &str) -> Decided
+/// Reads the named file, and finds whether it is refused, or what its one execution does.
+fn decide_file<F: Files>(alloc: Global, files: &mut F, name: &str) -> Decided
     ensures right { IsRight (F.told files.old) name.now (Rose (F.faults files.old) (F.faults files.new)) result }
     ensures folder { F.told files.new ≡ F.told files.old }
     ensures later { F.faults files.old ≤ F.faults files.new }
 {
     match read_file(alloc, files, name) {
         Ok(bytes) => decide_bytes(alloc, &bytes),
-        Err(Unread::Missing) => Decided::Missing,
-        Err(Unread::Fault) => Decided::ReadFault,
-        Err(Unread::TooLong) => Decided::NotYet,
-        Err(Unread::NoMemory) => Decided::NoMemory,
+        Err(source::Unread::Missing) => Decided::Missing,
+        Err(source::Unread::Fault) => Decided::ReadFault,
+        Err(source::Unread::TooLong) => Decided::Refused {
+            refusal: Refusal::TooLong,
+        },
+        Err(source::Unread::NoMemory) => Decided::NoMemory,
     }
+}
+
+/// What is found of the named file. A told file that is refused is refused, and one that spells a straight program is
+/// verified, unless a call of the folder fails or memory runs out.
+#[tactic(auto, using(crate::proofs::Found::refused_is_refused, crate::proofs::Found::early_is_verified))]
+pub fn decide<F: Files>(alloc: Global, files: &mut F, name: &str) -> Decided
+    ensures right { IsRight (F.told files.old) name.now (Rose (F.faults files.old) (F.faults files.new)) result }
+    ensures is_refused { (m : Folder) (source : List ℕ) (refusal : Refusal) → F.told files.old ≡ Some m → get m name.now ≡ Some source
+        → Refuses source refusal → MayRefuse result }
+    ensures is_verified { (m : Folder) (source : List ℕ) (program : Program) → F.told files.old ≡ Some m → get m name.now ≡ Some source
+        → Early source program → MayVerify result }
+    ensures folder { F.told files.new ≡ F.told files.old }
+    ensures later { F.faults files.old ≤ F.faults files.new }
+{
+    spells_or_refuses();
+    decide_file(alloc, files, name)
 }

@@ -2,7 +2,6 @@
 #![tactic(auto)]
 
 mod decide;
-mod early;
 mod outcome;
 mod print;
 mod source;

@@ -1,9 +1,10 @@
 //! The texts that are printed.
 
-ghost use Rattle.std.specs.Prelude.{◌≡◌, IfOk, string_bytes};
-ghost use Rattle.esbmc_cli.specs.Texts.{check_text, failed_text, successful_text, usage_text, not_yet_text, read_fault_text, missing_text};
+ghost use Rattle.std.specs.Prelude.{◌≡◌, ◌++◌, IfOk, codes, string_bytes};
+ghost use Rattle.esbmc_cli.specs.Texts.{check_text, failed_text, successful_text, usage_text, refused_text, line_text, read_fault_text, missing_text};
 
 use c_model::CheckKind;
+use c_source::Refusal;
 use kv_base::NoMemory;
 use std::alloc::Global;
 
@@ -40,10 +41,32 @@ pub fn usage() -> &'static [u8]
     b"usage: esbmc_k [options] FILE\n"
 }
 
-pub fn not_yet() -> &'static [u8]
-    ensures { result.now ≡ not_yet_text }
+fn at_line(alloc: Global, line: u32, text: &str) -> Result<String, NoMemory>
+    ensures { IfOk result (λ made. string_bytes made ≡ line_text line text.now) }
 {
-    b"error: not yet\n"
+    format!(in alloc; "error: line {line}: {text}\n")
+}
+
+fn left_out(alloc: Global, word: &str, line: u32) -> Result<String, NoMemory>
+    ensures { IfOk result (λ made. string_bytes made ≡ line_text line (codes "left out: " ++ word.now)) }
+{
+    format!(in alloc; "error: line {line}: left out: {word}\n")
+}
+
+pub fn refused(alloc: Global, refusal: Refusal) -> Result<String, NoMemory>
+    ensures { IfOk result (λ text. string_bytes text ≡ refused_text refusal) }
+{
+    match refusal {
+        Refusal::TooLong => String::from_str(alloc, "error: file longer than 1048576 bytes\n"),
+        Refusal::NoToken { line } => at_line(alloc, line, "no token"),
+        Refusal::Directive { line } => at_line(alloc, line, "directive"),
+        Refusal::LongConstant { line } => at_line(alloc, line, "constant too large"),
+        Refusal::TooManyTokens { line } => at_line(alloc, line, "more than 200000 tokens"),
+        Refusal::LeftOut { word, line } => left_out(alloc, word, line),
+        Refusal::TooDeep { line } => at_line(alloc, line, "nested too deep"),
+        Refusal::Syntax { line } => at_line(alloc, line, "syntax"),
+        Refusal::NotYet => String::from_str(alloc, "error: not yet\n"),
+    }
 }
 
 pub fn read_fault() -> &'static [u8]

@@ -4,7 +4,10 @@ ghost use Rattle.std.specs.Io.KnownBytes.{Keeps};
 ghost use Rattle.std.specs.Option.{option_map};
 ghost use Rattle.kv_port.specs.Causes.{Rose};
 ghost use Rattle.kv_port.specs.Folder.{Folder};
-ghost use Rattle.esbmc_cli.specs.Answers.{file_of, OneOf, HasStatus, Prints, IsSuccessful, IsFailed, IsUsage, IsNotYet, IsReadFault, IsMissing};
+ghost use Rattle.c_model.specs.declared.program.Program.{Program};
+ghost use Rattle.c_source.specs.declared.refusal.Refusal.{Refusal};
+ghost use Rattle.c_source.specs.Sources.{Early, Refuses};
+ghost use Rattle.esbmc_cli.specs.Answers.{file_of, OneOf, HasStatus, Prints, IsSuccessful, IsFailed, IsUsage, IsRefused, IsReadFault, IsMissing};
 
 use crate::decide::{Decided, decide};
 use crate::print::answer;
@@ -56,14 +59,20 @@ pub fn run_alone<F: Files, W: Sink>(
     ensures failed { result.meant ≡ 1 → IsFailed (file_of (map string_bytes words.now)) (F.told files.old)
         (Prints result.status (W.told out.old) (W.told out.new)) }
 
+    // One of them, exactly where a told file spells a straight program, unless a read fails or memory runs out.
+    ensures is_verified { (m : Folder) (name source : List ℕ) (program : Program) → file_of (map string_bytes words.now) ≡ Some name
+        → F.told files.old ≡ Some m → get m name ≡ Some source → Early source program → OneOf (0 ∷ 1 ∷ 6 ∷ 8 ∷ []) result.meant }
+
     // 4, exactly where the words name no file, unless memory runs out.
     ensures usage { result.meant ≡ 4 → IsUsage (file_of (map string_bytes words.now))
         (Prints result.status (W.told out.old) (W.told out.new)) }
     ensures is_usage { file_of (map string_bytes words.now) ≡ None → OneOf (4 ∷ 8 ∷ []) result.meant }
 
-    // 5, a file that isn't read as a straight program.
-    ensures not_yet { result.meant ≡ 5 → IsNotYet (file_of (map string_bytes words.now)) (F.told files.old)
+    // 5, exactly where a told file is refused, for the printed cause, unless a read fails or memory runs out.
+    ensures refused { result.meant ≡ 5 → IsRefused (file_of (map string_bytes words.now)) (F.told files.old)
         (Prints result.status (W.told out.old) (W.told out.new)) }
+    ensures is_refused { (m : Folder) (name source : List ℕ) (refusal : Refusal) → file_of (map string_bytes words.now) ≡ Some name
+        → F.told files.old ≡ Some m → get m name ≡ Some source → Refuses source refusal → OneOf (5 ∷ 6 ∷ 8 ∷ []) result.meant }
 
     // 6, a read fault.
     ensures read_fault { result.meant ≡ 6 → IsReadFault (file_of (map string_bytes words.now))
@@ -91,7 +100,10 @@ pub fn run_alone<F: Files, W: Sink>(
             Ok(text) => answer(out, 1, text.as_bytes()),
             Err(_) => silent(),
         },
-        Decided::NotYet => answer(out, 5, texts::not_yet()),
+        Decided::Refused { refusal } => match texts::refused(alloc, refusal) {
+            Ok(text) => answer(out, 5, text.as_bytes()),
+            Err(_) => silent(),
+        },
         Decided::ReadFault => answer(out, 6, texts::read_fault()),
         Decided::Missing => answer(out, 12, texts::missing()),
         Decided::NoMemory => silent(),

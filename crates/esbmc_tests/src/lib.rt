@@ -1,7 +1,7 @@
 //! Runs of the whole program over files and sinks in memory.
 #![tactic(auto)]
 
-ghost use Rattle.std.specs.Prelude.{◌≡◌, IfOk, ◌∷◌, [], Some};
+ghost use Rattle.std.specs.Prelude.{◌≡◌, ◌<◌, IfOk, ◌∷◌, [], Some};
 ghost use Rattle.kv_port.specs.MemFiles.{folder_of};
 
 #[cfg(test)]
@@ -9,8 +9,19 @@ mod tests;
 
 use esbmc_cli::{Outcome, run_alone};
 use kv_base::{Bytes, NoMemory, Sequence};
-use kv_port::{Failing, Files, MemFiles, NamedFile, Sink};
+use kv_port::{Failing, Files, MemFiles, NamedFile, NamedFiles, Sink};
 use std::alloc::Global;
+
+fn one_file(alloc: Global, name: &[u8], content: &[u8]) -> Result<NamedFiles, NoMemory>
+    ensures { IfOk result (λ files. files ≡ record { name = name.now; content = content.now } ∷ []) }
+{
+    let mut files = Sequence::new(alloc);
+    files.push(NamedFile {
+        name: Bytes::from_slice(alloc, name)?,
+        content: Bytes::from_slice(alloc, content)?,
+    })?;
+    Ok(files)
+}
 
 /// A folder with one file, of which these calls fail.
 pub fn folder(
@@ -22,13 +33,27 @@ pub fn folder(
     ensures { IfOk result (λ files. ⟦<MemFiles as Files>⟧.told files
         ≡ Some (folder_of (record { name = name.now; content = content.now } ∷ []))) }
 {
-    let mut files = Sequence::new(alloc);
-    files.push(NamedFile {
-        name: Bytes::from_slice(alloc, name)?,
-        content: Bytes::from_slice(alloc, content)?,
-    })?;
+    let files = one_file(alloc, name, content)?;
     let failing = Sequence::from_slice(alloc, failing)?;
     Ok(MemFiles::new(alloc, files, failing))
+}
+
+/// A folder with one file, which gives at most so many bytes at each read.
+pub fn in_pieces(
+    alloc: Global,
+    name: &[u8],
+    content: &[u8],
+    size: usize,
+) -> Result<MemFiles, NoMemory>
+    requires { 0 < size }
+    ensures { IfOk result (λ files. ⟦<MemFiles as Files>⟧.told files
+        ≡ Some (folder_of (record { name = name.now; content = content.now } ∷ []))) }
+{
+    Ok(MemFiles::in_pieces(
+        alloc,
+        one_file(alloc, name, content)?,
+        size,
+    ))
 }
 
 /// Runs the program on these words.

@@ -1,6 +1,7 @@
-use crate::{folder, run_words};
-use kv_base::Sequence;
+use crate::{folder, in_pieces, run_words};
+use kv_base::{NoMemory, Sequence};
 use kv_port::{Call, Failing, MemFiles, MemSink};
+use std::alloc::Global;
 use std::test::Fail;
 
 const SUM: &[u8] = b"int main(void){int x=3;x=x+1;assert(x==4);return 0;}";
@@ -108,11 +109,122 @@ fn sinks_that_fail(rt: HostRuntime) -> Result<(), Fail> {
 }
 
 #[test]
+fn refused_sources(rt: HostRuntime) -> Result<(), Fail> {
+    let alloc = rt.alloc();
+    let cases: [(&[u8], &[u8]); 12] = [
+        (b"@", b"error: line 1: no token\n"),
+        (b"int x;\n\n/* int y;", b"error: line 3: no token\n"),
+        (b"#if 1", b"error: line 1: directive\n"),
+        (
+            b"int x;\nint y = 18446744073709551616;",
+            b"error: line 2: constant too large\n",
+        ),
+        (
+            b"float x; int main(void){return 0;}",
+            b"error: line 1: left out: float\n",
+        ),
+        (
+            b"int main(void){\n__asm__(\"\");}",
+            b"error: line 2: left out: __asm__\n",
+        ),
+        (
+            b"int x = 1.5;",
+            b"error: line 1: left out: floating constant\n",
+        ),
+        // What is left out comes before a fault of syntax.
+        (b"int main(void){while (goto", b"error: line 1: left out: goto\n"),
+        (b"int main(void){while (i <", b"error: line 1: syntax\n"),
+        (b"\nint main(void){return 0;}}", b"error: line 2: syntax\n"),
+        (b"int main(void){L:int x;}", b"error: line 1: syntax\n"),
+        (b"typedef int T; int main(void){T:;T x=1;}", b"error: not yet\n"),
+    ];
+    for (text, printed) in cases {
+        let mut files = folder(alloc, b"a.c", text, &[])?;
+        let mut out = MemSink::new(alloc, Sequence::new(alloc));
+        let outcome = run_words(alloc, &["a.c"], &mut files, &mut out)?;
+        assert_eq!(rt; outcome.status, 5);
+        assert_eq!(rt; outcome.meant, 5);
+        assert_eq!(rt; out.bytes(), printed);
+    }
+    Ok(())
+}
+
+#[test]
+fn texts_that_end_early(rt: HostRuntime) -> Result<(), Fail> {
+    let alloc = rt.alloc();
+    for (end, _) in SUM.iter().enumerate() {
+        let Some(text) = SUM.get(..end) else {
+            return Ok(());
+        };
+        let mut files = folder(alloc, b"a.c", text, &[])?;
+        let mut out = MemSink::new(alloc, Sequence::new(alloc));
+        let outcome = run_words(alloc, &["a.c"], &mut files, &mut out)?;
+        assert_eq!(rt; outcome.status, 5);
+        let printed: &[u8] = if end == 0 {
+            b"error: not yet\n"
+        } else {
+            b"error: line 1: syntax\n"
+        };
+        assert_eq!(rt; out.bytes(), printed);
+    }
+    Ok(())
+}
+
+/// What the program prints for so many equal bytes.
+fn printed_for(
+    alloc: Global,
+    byte: u8,
+    count: usize,
+    printed: &[u8],
+) -> Result<bool, NoMemory> {
+    let mut text = Vec::new(alloc);
+    for _ in 0..count {
+        text.push(byte)?;
+    }
+    let mut files = folder(alloc, b"a.c", text.as_slice(), &[])?;
+    let mut out = MemSink::new(alloc, Sequence::new(alloc));
+    let outcome = run_words(alloc, &["a.c"], &mut files, &mut out)?;
+    Ok(outcome.status == 5 && out.bytes() == printed)
+}
+
+#[test]
+fn long_and_deep_sources(rt: HostRuntime) -> Result<(), Fail> {
+    let cases: [(u8, usize, &[u8]); 8] = [
+        (b' ', 1_048_576, b"error: not yet\n"),
+        (b' ', 1_048_577, b"error: file longer than 1048576 bytes\n"),
+        (b';', 200_000, b"error: not yet\n"),
+        (b';', 200_001, b"error: line 1: more than 200000 tokens\n"),
+        (b'(', 499, b"error: line 1: syntax\n"),
+        (b'(', 500, b"error: line 1: nested too deep\n"),
+        (b')', 499, b"error: line 1: syntax\n"),
+        (b')', 500, b"error: line 1: nested too deep\n"),
+    ];
+    for (byte, count, printed) in cases {
+        assert!(rt; printed_for(rt.alloc(), byte, count, printed)?);
+    }
+    Ok(())
+}
+
+#[test]
+fn files_in_pieces(rt: HostRuntime) -> Result<(), Fail> {
+    let alloc = rt.alloc();
+    for size in [1usize, 2, 7] {
+        let mut files = in_pieces(alloc, b"a.c", SUM, size)?;
+        let mut out = MemSink::new(alloc, Sequence::new(alloc));
+        let outcome = run_words(alloc, &["a.c"], &mut files, &mut out)?;
+        assert_eq!(rt; outcome.status, 0);
+        assert_eq!(rt; out.bytes(), SUCCESSFUL);
+    }
+    Ok(())
+}
+
+#[test]
 fn files_without_end(rt: HostRuntime) -> Result<(), Fail> {
     let alloc = rt.alloc();
     let mut files = MemFiles::endless(alloc, b' ');
     let mut out = MemSink::new(alloc, Sequence::new(alloc));
     let outcome = run_words(alloc, &["a.c"], &mut files, &mut out)?;
     assert_eq!(rt; outcome.status, 5);
+    assert_eq!(rt; out.bytes(), b"error: file longer than 1048576 bytes\n".as_slice());
     Ok(())
 }

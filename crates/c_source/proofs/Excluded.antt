@@ -1,0 +1,61 @@
+-- What spells a straight program isn't refused.
+use Rattle.std.proofs.Common.{◌≡◌, ℕ, ◌+◌, ◌<◌, ◌≤◌, List, length, Option, Some, None, sym, subst, ◌∙◌, ap, arith}
+use Rattle.c_model.specs.declared.token.Token.{Token}
+use Rattle.c_model.specs.declared.token.TokenKind.{TokenKind}
+use Rattle.c_model.specs.declared.data_model.DataModel.TheVariants.{Lp64}
+use Rattle.c_model.specs.declared.program.Program.{Program}
+use Rattle.c_model.specs.Reading.{Fault, Reading, Read, Fails, reading}
+use Rattle.c_tree.specs.declared.declaration.Tree.{Tree}
+use Rattle.c_tree.specs.Nesting.{IsFirstDeeper, depth_after}
+use Rattle.c_tree.specs.SpellsText.{kinds_of, Spells}
+use Rattle.c_grammar.specs.Laws.{OneTree}
+use Rattle.c_parser.specs.Parses.{left_out, limit, IsWithin}
+use Rattle.c_straight.specs.Straight.{IsStraight}
+use Rattle.c_source.specs.declared.refusal.Refusal.{Refusal}
+use Rattle.c_source.specs.declared.refusal.Refusal.TheVariants.{TooLong, NoToken, Directive, LongConstant, TooManyTokens, LeftOut, TooDeep, Syntax, NotYet}
+use Rattle.c_source.specs.Sources.{most_bytes, HasTokens, FailsWith, HasTree, Early, Refuses}
+
+same_tokens : (source : List ℕ) (a b : List Token) → HasTokens source a → HasTokens source b → a ≡ b
+same_tokens source a b h k = let e = h.read in let f = k.read in cc
+
+read_or_fails : (source : List ℕ) (tokens : List Token) (fault : Fault) → HasTokens source tokens → FailsWith source fault → ⊥
+read_or_fails source tokens fault h k = let e = h.read in let f = k.read in cc
+
+none_deeper : (kinds : List TokenKind) (at : ℕ) → IsFirstDeeper limit kinds None → IsFirstDeeper limit kinds (Some at) → ⊥
+none_deeper kinds at none some =
+    let inside : at + 1 ≤ length kinds = let h = some.0 in omega arith in
+    let flat : depth_after kinds (at + 1) ≤ limit = none (at + 1) inside in
+    let deep : limit < depth_after kinds (at + 1) = some.1 in
+    omega arith
+
+within_of : (source : List ℕ) (tokens : List Token) (tree : Tree) (others : List Token) → HasTree source tokens tree → HasTokens source others → IsWithin others
+within_of source tokens tree others h k = subst IsWithin (same_tokens source tokens others h.tokens_are k) h.within
+
+spelled_of : (source : List ℕ) (tokens : List Token) (tree : Tree) (others : List Token) → HasTree source tokens tree → HasTokens source others → Spells others tree
+spelled_of source tokens tree others h k =
+    let P : List Token → Type 0 = λ ts. Spells ts tree in
+    subst P (same_tokens source tokens others h.tokens_are k) h.spelled
+
+straight_of : (source : List ℕ) (tokens : List Token) (tree : Tree) (others : List Token) (other : Tree) (program : Program) → OneTree
+    → HasTree source tokens tree → IsStraight tokens tree program → HasTree source others other → IsStraight others other program
+straight_of source tokens tree others other program one h is k =
+    let P : List Token → Type 0 = λ ts. IsStraight ts tree program in
+    let Q : Tree → Type 0 = λ t. IsStraight others t program in
+    let there : IsStraight others tree program = subst P (same_tokens source tokens others h.tokens_are k.tokens_are) is in
+    subst Q (one others tree other (spelled_of source tokens tree others h k.tokens_are) k.spelled) there
+
+pub spells_or_refuses_lem : OneTree → (source : List ℕ) (program : Program) (refusal : Refusal) → Early source program → Refuses source refusal → ⊥
+spells_or_refuses_lem one source program TooLong early r = let size = early.has.tokens_are.size in omega arith
+spells_or_refuses_lem one source program (NoToken line) early r = read_or_fails source early.tokens _ early.has.tokens_are r.1.fails
+spells_or_refuses_lem one source program (Directive line) early r = read_or_fails source early.tokens _ early.has.tokens_are r.1.fails
+spells_or_refuses_lem one source program (LongConstant line) early r = read_or_fails source early.tokens _ early.has.tokens_are r.1.fails
+spells_or_refuses_lem one source program (TooManyTokens line) early r = read_or_fails source early.tokens _ early.has.tokens_are r.1.fails
+spells_or_refuses_lem one source program (LeftOut word line) early r =
+    let within : IsWithin r.tokens = within_of source early.tokens early.tree r.tokens early.has r.has in
+    let none : left_out r.tokens ≡ None = within.0 in let some = r.first in cc
+spells_or_refuses_lem one source program (TooDeep line) early r =
+    let within : IsWithin r.tokens = within_of source early.tokens early.tree r.tokens early.has r.has in
+    none_deeper (kinds_of r.tokens) r.at within.1 r.first
+spells_or_refuses_lem one source program (Syntax line) early r = r.no_tree early.tree (spelled_of source early.tokens early.tree r.tokens early.has r.has)
+spells_or_refuses_lem one source program NotYet early r =
+    r.not_straight program (straight_of source early.tokens early.tree r.tokens r.tree program one early.has early.straight r.has)

@@ -1,0 +1,145 @@
+-- What the bytes of a source say: the straight program that they spell, or why they are refused. Sections are those of
+-- ISO/IEC 9899:2011.
+use Rattle.std.specs.Prelude.{◌≡◌, ℕ, ◌+◌, ◌-◌, ◌<◌, ◌≤◌, List, [], length, take, min, Option, Some, None, slice_get, codes}
+use Rattle.c_model.specs.declared.data_model.DataModel.TheVariants.{Lp64}
+use Rattle.c_model.specs.declared.token.Token.{Token}
+use Rattle.c_model.specs.declared.token.TokenKind.{TokenKind}
+use Rattle.c_model.specs.declared.token.TokenKind.TheVariants as token
+use Rattle.c_model.specs.declared.program.Program.{Program}
+use Rattle.c_model.specs.Reading.{Fault, Read, Fails, newlines, place_of, reading}
+use Rattle.c_model.specs.Reading as lexing
+use Rattle.c_tree.specs.declared.declaration.Tree.{Tree}
+use Rattle.c_tree.specs.Nesting.{IsFirstDeeper}
+use Rattle.c_tree.specs.SpellsText.{kinds_of, Spells}
+use Rattle.c_parser.specs.Parses.{left_out, limit, IsWithin}
+use Rattle.c_straight.specs.Straight.{IsStraight}
+use Rattle.c_source.specs.declared.refusal.Refusal.{Refusal}
+use Rattle.c_source.specs.declared.refusal.Refusal.TheVariants.{TooLong, NoToken, Directive, LongConstant, TooManyTokens, LeftOut, TooDeep, Syntax, NotYet}
+
+-- the most bytes that a source may have
+abbrev pub most_bytes : ℕ
+most_bytes = 1048576
+
+-- ---- lines, counted from 1
+
+-- the line of the byte at an offset
+abbrev pub line_of : List ℕ → ℕ → ℕ
+line_of source at = 1 + newlines (take at source)
+
+abbrev pub line_in : Option Token → ℕ
+line_in (Some token) = token.line
+line_in None = 1
+
+-- the line of the token of a number; behind the last token it is that of the last, or 1
+abbrev pub line_at : List Token → ℕ → ℕ
+line_at tokens at = line_in (slice_get tokens (min at (length tokens - 1)))
+
+-- ---- words
+
+-- a left-out word as it is printed
+abbrev pub word_of : TokenKind → List ℕ
+word_of token.Float = codes "float"
+word_of token.Double = codes "double"
+word_of token.Complex = codes "_Complex"
+word_of token.Imaginary = codes "_Imaginary"
+word_of token.Union = codes "union"
+word_of token.Goto = codes "goto"
+word_of token.Asm = codes "asm"
+word_of token.UnderscoredAsm = codes "__asm__"
+word_of token.UnderscoreAsm = codes "__asm"
+word_of token.Generic = codes "_Generic"
+word_of token.Atomic = codes "_Atomic"
+word_of token.ThreadLocal = codes "_Thread_local"
+word_of token.Alignas = codes "_Alignas"
+word_of token.Alignof = codes "_Alignof"
+word_of token.StaticAssert = codes "_Static_assert"
+word_of _ = codes "floating constant"
+
+abbrev pub word_in : Option TokenKind → List ℕ
+word_in (Some kind) = word_of kind
+word_in None = codes "floating constant"
+
+abbrev pub word_at : List Token → ℕ → List ℕ
+word_at tokens at = word_in (slice_get (kinds_of tokens) at)
+
+-- ---- what the bytes say
+
+-- these are the tokens of the bytes (6.4, 6.10)
+pub record HasTokens (source : List ℕ) (tokens : List Token) : Type 0 where
+  pub size : length source ≤ most_bytes
+  pub read : reading Lp64 source ≡ Read tokens
+
+-- the reading of the bytes fails so
+pub record FailsWith (source : List ℕ) (fault : Fault) : Type 0 where
+  pub size : length source ≤ most_bytes
+  pub read : reading Lp64 source ≡ Fails fault
+
+-- this is the tree of the bytes (6.9)
+pub record HasTree (source : List ℕ) (tokens : List Token) (tree : Tree) : Type 0 where
+  pub tokens_are : HasTokens source tokens
+  pub within : IsWithin tokens
+  pub spelled : Spells tokens tree
+
+-- the bytes spell this straight program
+pub record Early (source : List ℕ) (program : Program) : Type 0 where
+  pub tokens : List Token
+  pub tree : Tree
+  pub has : HasTree source tokens tree
+  pub straight : IsStraight tokens tree program
+
+-- ---- why they are refused: each cause is the first in this order
+
+-- a fault of this reading (5.1.1.2, 6.4, 6.10), at this line
+pub record IsUnread (source : List ℕ) (fault : Fault) (line : ℕ) : Type 0 where
+  pub fails : FailsWith source fault
+  pub line_is : line ≡ line_of source (place_of fault)
+
+-- a token that the accepted C leaves out, the first
+pub record IsLeftOut (source word : List ℕ) (line : ℕ) : Type 0 where
+  pub tokens : List Token
+  pub at : ℕ
+  pub has : HasTokens source tokens
+  pub first : left_out tokens ≡ Some at
+  pub word_is : word ≡ word_at tokens at
+  pub line_is : line ≡ line_at tokens at
+
+-- the first token after which the text is nested too deep
+pub record IsTooDeep (source : List ℕ) (line : ℕ) : Type 0 where
+  pub tokens : List Token
+  pub at : ℕ
+  pub has : HasTokens source tokens
+  pub none_left_out : left_out tokens ≡ None
+  pub first : IsFirstDeeper limit (kinds_of tokens) (Some at)
+  pub line_is : line ≡ line_at tokens at
+
+-- the tokens spell no tree; the line is that of one of them
+pub record IsNoSyntax (source : List ℕ) (line : ℕ) : Type 0 where
+  pub tokens : List Token
+  pub at : ℕ
+  pub has : HasTokens source tokens
+  pub within : IsWithin tokens
+  pub no_tree : (tree : Tree) → Spells tokens tree → ⊥
+  pub line_is : line ≡ line_at tokens at
+
+-- the tree is that of no straight program
+pub record IsNotYet (source : List ℕ) : Type 0 where
+  pub tokens : List Token
+  pub tree : Tree
+  pub has : HasTree source tokens tree
+  pub not_straight : (program : Program) → IsStraight tokens tree program → ⊥
+
+-- the bytes are refused for this
+abbrev pub Refuses : List ℕ → Refusal → Type 0
+Refuses source TooLong = most_bytes < length source
+Refuses source (NoToken line) = (at : ℕ) × IsUnread source (lexing.NoToken at) line
+Refuses source (Directive line) = (at : ℕ) × IsUnread source (lexing.Directive at) line
+Refuses source (LongConstant line) = (at : ℕ) × IsUnread source (lexing.LongConstant at) line
+Refuses source (TooManyTokens line) = (at : ℕ) × IsUnread source (lexing.TooManyTokens at) line
+Refuses source (LeftOut word line) = IsLeftOut source word.now line
+Refuses source (TooDeep line) = IsTooDeep source line
+Refuses source (Syntax line) = IsNoSyntax source line
+Refuses source NotYet = IsNotYet source
+
+-- no bytes spell a straight program and are refused, and none spell two straight programs
+abbrev pub SpellsOrRefuses : Type 0
+SpellsOrRefuses = (source : List ℕ) (program : Program) (refusal : Refusal) → Early source program → Refuses source refusal → ⊥

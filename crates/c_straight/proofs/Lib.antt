@@ -1,0 +1,3 @@
+pub mod SumSteps
+pub mod Bodies
+pub mod InScope
