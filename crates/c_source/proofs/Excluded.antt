@@ -6,10 +6,11 @@ use Rattle.c_model.specs.declared.data_model.DataModel.TheVariants.{Lp64}
 use Rattle.c_model.specs.declared.program.Program.{Program}
 use Rattle.c_model.specs.Reading.{Fault, Reading, Read, Fails, reading}
 use Rattle.c_tree.specs.declared.declaration.Tree.{Tree}
-use Rattle.c_tree.specs.Nesting.{IsFirstDeeper, depth_after}
+use Rattle.c_tree.specs.Nesting.{depth_after}
 use Rattle.c_tree.specs.SpellsText.{kinds_of, Spells}
 use Rattle.c_grammar.specs.Laws.{OneTree}
-use Rattle.c_parser.specs.Parses.{left_out, limit, IsWithin}
+use Rattle.c_parser.specs.declared.nesting.TheConstants.{LIMIT}
+use Rattle.c_parser.specs.Parses.{left_out, IsFirstTooDeep, IsWithin}
 use Rattle.c_straight.specs.Straight.{IsStraight}
 use Rattle.c_source.specs.declared.refusal.Refusal.{Refusal}
 use Rattle.c_source.specs.declared.refusal.Refusal.TheVariants.{TooLong, NoToken, Directive, LongConstant, TooManyTokens, LeftOut, TooDeep, Syntax, NotYet}
@@ -21,11 +22,11 @@ same_tokens source a b h k = let e = h.read in let f = k.read in cc
 read_or_fails : (source : List ℕ) (tokens : List Token) (fault : Fault) → HasTokens source tokens → FailsWith source fault → ⊥
 read_or_fails source tokens fault h k = let e = h.read in let f = k.read in cc
 
-none_deeper : (kinds : List TokenKind) (at : ℕ) → IsFirstDeeper limit kinds None → IsFirstDeeper limit kinds (Some at) → ⊥
-none_deeper kinds at none some =
-    let inside : at + 1 ≤ length kinds = let h = some.0 in omega arith in
-    let flat : depth_after kinds (at + 1) ≤ limit = none (at + 1) inside in
-    let deep : limit < depth_after kinds (at + 1) = some.1 in
+none_deeper : (tokens : List Token) (at : ℕ) → IsFirstTooDeep tokens None → IsFirstTooDeep tokens (Some at) → ⊥
+none_deeper tokens at none some =
+    let inside : at + 1 ≤ length (kinds_of tokens) = let h = some.0 in omega arith in
+    let flat : depth_after (kinds_of tokens) (at + 1) ≤ LIMIT = none (at + 1) inside in
+    let deep : LIMIT < depth_after (kinds_of tokens) (at + 1) = some.1 in
     omega arith
 
 within_of : (source : List ℕ) (tokens : List Token) (tree : Tree) (others : List Token) → HasTree source tokens tree → HasTokens source others → IsWithin others
@@ -55,7 +56,7 @@ spells_or_refuses_lem one source program (LeftOut word line) early r =
     let none : left_out r.tokens ≡ None = within.0 in let some = r.first in cc
 spells_or_refuses_lem one source program (TooDeep line) early r =
     let within : IsWithin r.tokens = within_of source early.tokens early.tree r.tokens early.has r.has in
-    none_deeper (kinds_of r.tokens) r.at within.1 r.first
+    none_deeper r.tokens r.at within.1 r.first
 spells_or_refuses_lem one source program (Syntax line) early r = r.no_tree early.tree (spelled_of source early.tokens early.tree r.tokens early.has r.has)
 spells_or_refuses_lem one source program NotYet early r =
     r.not_straight program (straight_of source early.tokens early.tree r.tokens r.tree program one early.has early.straight r.has)

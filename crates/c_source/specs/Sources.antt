@@ -9,9 +9,8 @@ use Rattle.c_model.specs.declared.program.Program.{Program}
 use Rattle.c_model.specs.Reading.{Fault, Read, Fails, newlines, place_of, reading}
 use Rattle.c_model.specs.Reading as lexing
 use Rattle.c_tree.specs.declared.declaration.Tree.{Tree}
-use Rattle.c_tree.specs.Nesting.{IsFirstDeeper}
 use Rattle.c_tree.specs.SpellsText.{kinds_of, Spells}
-use Rattle.c_parser.specs.Parses.{left_out, limit, IsWithin}
+use Rattle.c_parser.specs.Parses.{left_out, IsFirstTooDeep, IsWithin, SpellsNone}
 use Rattle.c_straight.specs.Straight.{IsStraight}
 use Rattle.c_source.specs.declared.refusal.Refusal.{Refusal}
 use Rattle.c_source.specs.declared.refusal.Refusal.TheVariants.{TooLong, NoToken, Directive, LongConstant, TooManyTokens, LeftOut, TooDeep, Syntax, NotYet}
@@ -109,7 +108,7 @@ pub record IsTooDeep (source : List ℕ) (line : ℕ) : Type 0 where
   pub at : ℕ
   pub has : HasTokens source tokens
   pub none_left_out : left_out tokens ≡ None
-  pub first : IsFirstDeeper limit (kinds_of tokens) (Some at)
+  pub first : IsFirstTooDeep tokens (Some at)
   pub line_is : line ≡ line_at tokens at
 
 -- the tokens spell no tree; the line is that of one of them
@@ -118,7 +117,7 @@ pub record IsNoSyntax (source : List ℕ) (line : ℕ) : Type 0 where
   pub at : ℕ
   pub has : HasTokens source tokens
   pub within : IsWithin tokens
-  pub no_tree : (tree : Tree) → Spells tokens tree → ⊥
+  pub no_tree : SpellsNone tokens
   pub line_is : line ≡ line_at tokens at
 
 -- the tree is that of no straight program
