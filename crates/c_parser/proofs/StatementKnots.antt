@@ -1,10 +1,10 @@
 -- One step of the readers of initialisers and statements.
-use Rattle.std.proofs.Common.{◌≡◌, ℕ, zero, suc, ◌-◌, ◌<◌, List, ap, ◌∙◌, sym, subst, arith}
-use Rattle.std.specs.Prelude.{Result, Ok, Err}
+use Rattle.std.proofs.Common.{◌≡◌, ℕ, suc, ◌-◌, ◌<◌, List, ap, ◌∙◌, sym, subst, arith}
+use Rattle.std.specs.Prelude.{Err}
 use Rattle.c_model.specs.declared.token.TokenKind.{TokenKind}
 use Rattle.c_tree.specs.Places.{Place}
 use Rattle.c_expressions.specs.declared.fault.Fault.{Fault}
-use Rattle.c_expressions.specs.declared.fault.Fault.TheVariants.{Syntax, NoMemory}
+use Rattle.c_expressions.specs.declared.fault.Fault.TheVariants.{Syntax}
 use Rattle.c_grammar.specs.Marks.{mark_at}
 use Rattle.c_grammar.specs.Reader.{Outcome, Refuses}
 use Rattle.c_grammar.specs.Readers.{read}

@@ -1,5 +1,5 @@
 -- Blocks, chains of `if` and texts, which are read one by one.
-use Rattle.std.proofs.Common.{◌≡◌, List, [], ◌∷◌, ◌++◌, ℕ, zero, suc, ◌+◌, ◌-◌, ◌<◌, Bool, true, false, Option, Some, None, length, refl, ap, ◌∙◌, sym, subst, append_assoc, arith}
+use Rattle.std.proofs.Common.{◌≡◌, List, [], ◌∷◌, ◌++◌, ℕ, zero, suc, ◌+◌, ◌-◌, ◌<◌, Option, Some, None, length, refl, ap, ◌∙◌, sym, subst, append_assoc, arith}
 use Rattle.std.specs.Prelude.{Result, Ok, Err}
 use Rattle.c_model.specs.declared.token.Token.{Token}
 use Rattle.c_model.specs.declared.token.TokenKind.{TokenKind}
@@ -163,7 +163,7 @@ length_more (y ∷ ys) x = ap suc (length_more ys x)
 
 body_both : (kinds : List TokenKind) (st : ReadsStatement) (more : Place → Outcome Chain) (p : Place) (x : Expression) (q : Place)
     → chain_of kinds st more p x q
-        ≡ and_then (and_then (st (enter q)) (λ body r. Gives (record { test = x; body = body; at = p.at }) r)) (λ x r. chain_by kinds st more x r (mark_at kinds r))
+    ≡ and_then (and_then (st (enter q)) (λ body r. Gives (record { test = x; body = body; at = p.at }) r)) (λ x r. chain_by kinds st more x r (mark_at kinds r))
 body_both kinds st more p x q =
     then_both (st (enter q)) (λ body r. chain_by kinds st more (record { test = x; body = body; at = p.at }) r (mark_at kinds r))
     (λ body r. Gives (record { test = x; body = body; at = p.at }) r) (λ x r. chain_by kinds st more x r (mark_at kinds r)) (λ body r. refl)
@@ -235,7 +235,7 @@ chain_else_at kinds rd st n i p r s xs x o h f g b k e =
 
 last_else_by : (xs : List Branch) (x : Branch) (o : Outcome Statement)
     → and_then (resumed (length xs) xs (and_then o (λ y t. Gives (Chains (x ∷ []) (Some y)) (leave (leave t))))) chained
-        ≡ and_then o (λ y t. Gives (statement_node.IfElse (xs ++ x ∷ []) y) (leaves (length (xs ++ x ∷ [])) t))
+    ≡ and_then o (λ y t. Gives (statement_node.IfElse (xs ++ x ∷ []) y) (leaves (length (xs ++ x ∷ [])) t))
 last_else_by xs x (Gives y t) = ap (λ k. Gives (statement_node.IfElse (xs ++ x ∷ []) y) (leaves k t)) (sym (length_more xs x))
 last_else_by xs x Refuses = refl
 

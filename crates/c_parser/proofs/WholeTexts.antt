@@ -5,7 +5,6 @@ use Rattle.c_model.specs.declared.token.Token.{Token}
 use Rattle.c_tree.specs.declared.declaration.External.{External}
 use Rattle.c_tree.specs.declared.declaration.Tree.{Tree}
 use Rattle.c_tree.specs.SpellsText.{kinds_of, Spells}
-use Rattle.c_expressions.specs.declared.fault.Fault.{Fault}
 use Rattle.c_grammar.specs.Laws.{ReadsWhatIsSpelled, RefusesTheRest}
 use Rattle.c_grammar.specs.Reader.{Refuses}
 use Rattle.c_grammar.specs.ReadText.{text}

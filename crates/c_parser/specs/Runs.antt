@@ -11,10 +11,8 @@ use Rattle.c_tree.specs.Places.{Place, enter, leave, next}
 use Rattle.c_tree.specs.SpellsText.{kinds_of}
 use Rattle.c_expressions.specs.declared.fault.Fault.{Fault}
 use Rattle.c_expressions.specs.declared.fault.Fault.TheVariants.{Syntax, NoMemory}
-use Rattle.c_grammar.specs.Marks as sign
-use Rattle.c_grammar.specs.Marks.{Mark}
 use Rattle.c_grammar.specs.Reader.{Outcome, Gives, Refuses, and_then, Reader}
-use Rattle.c_grammar.specs.ReadStatements.{ReadsStatement, statement, labelled, name_statement, test}
+use Rattle.c_grammar.specs.ReadStatements.{ReadsStatement, statement, labelled, test}
 use Rattle.c_expressions.specs.Reads.{Reads}
 
 -- what reads statements, in up to this many steps

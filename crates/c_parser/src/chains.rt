@@ -28,7 +28,10 @@ fn leave_branches(count: usize, place: &mut Cursor)
     }
 }
 
-impl<'t, S: Fn(Global, &[Token], usize, &mut Cursor) -> Result<Statement, Fault>> Statements<'t, S> {
+impl<'t, S: Fn(Global, &[Token], usize, &mut Cursor) -> Result<Statement, Fault>> Statements<
+    't,
+    S,
+> {
     /// `if (test) body`, whose two blocks stay open.
     fn branch(&self, place: &mut Cursor) -> Result<Branch, Fault>
         requires runs { RunsStatements self.now.depth (S.pre self.now.inner) (S.post self.now.inner) }

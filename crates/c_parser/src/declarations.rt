@@ -8,7 +8,9 @@ ghost use Rattle.c_grammar.specs.ReadTypes.{listed, separated, separated_after};
 ghost use Rattle.c_grammar.specs.ReadStatements as spec;
 ghost use Rattle.c_expressions.specs.Reads.{Reads, ReadsAs, specified_of, titled_of};
 
-use c_expressions::{Fault, Mark, Perhaps, Specified, Titled, attributes, grammar, mark_at, refuse, take};
+use c_expressions::{
+    Fault, Mark, Perhaps, Specified, Titled, attributes, grammar, mark_at, refuse, take,
+};
 use c_grammar::ASSIGNMENT;
 use c_model::Token;
 use c_scopes::Cursor;

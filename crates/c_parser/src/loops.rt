@@ -18,7 +18,10 @@ use c_tree::{Expression, ForStart, Statement};
 use sqlite_items::Boxed;
 use std::alloc::Global;
 
-impl<'t, S: Fn(Global, &[Token], usize, &mut Cursor) -> Result<Statement, Fault>> Statements<'t, S> {
+impl<'t, S: Fn(Global, &[Token], usize, &mut Cursor) -> Result<Statement, Fault>> Statements<
+    't,
+    S,
+> {
     /// `switch (value) body` (6.8.4.2).
     pub fn switch(&self, place: &mut Cursor) -> Result<Statement, Fault>
         requires runs { RunsStatements self.now.depth (S.pre self.now.inner) (S.post self.now.inner) }
@@ -76,12 +79,7 @@ impl<'t, S: Fn(Global, &[Token], usize, &mut Cursor) -> Result<Statement, Fault>
     }
 
     /// What stands behind the body of a `do`, which is at a token.
-    fn do_test(
-        &self,
-        at: usize,
-        body: Statement,
-        place: &mut Cursor,
-    ) -> Result<Statement, Fault>
+    fn do_test(&self, at: usize, body: Statement, place: &mut Cursor) -> Result<Statement, Fault>
         ensures { let kinds = kinds_of self.now.tokens.now in Reads (spec.do_after kinds (readers.read kinds self.now.steps) (at_number at) body place.old) result place.new }
     {
         take(self.tokens, Mark::While, place)?;

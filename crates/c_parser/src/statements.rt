@@ -35,7 +35,10 @@ pub struct Statements<'t, S> {
     pub inner: S,
 }
 
-impl<'t, S: Fn(Global, &[Token], usize, &mut Cursor) -> Result<Statement, Fault>> Statements<'t, S> {
+impl<'t, S: Fn(Global, &[Token], usize, &mut Cursor) -> Result<Statement, Fault>> Statements<
+    't,
+    S,
+> {
     /// A statement inside.
     pub fn inner(&self, place: &mut Cursor) -> Result<Statement, Fault>
         requires runs { RunsStatements self.now.depth (S.pre self.now.inner) (S.post self.now.inner) }

@@ -1,4 +1,4 @@
-use Rattle.std.proofs.Common.{◌≡◌, ◌-◌, ◌∙◌, ap, sym, arith}
+use Rattle.std.proofs.Common.{◌-◌, ◌∙◌, ap, sym, arith}
 use Rattle.c_tree.specs.Places.{leave}
 use Rattle.c_parser.proofs.StatementLists.{leaves_none, leaves_goes_on, leaves_begins}
 use Rattle.c_parser.proofs.chains.leave_branches.Goals as goal

@@ -1,4 +1,4 @@
-use Rattle.std.proofs.Common.{◌≡◌, ◌-◌, rules, arith}
+use Rattle.std.proofs.Common.{rules, arith}
 use Rattle.c_tree.specs.SpellsText.{kinds_of}
 use Rattle.c_grammar.specs.ReadTypes.{listed}
 use Rattle.c_grammar.specs.ReadStatements.{initialiser}

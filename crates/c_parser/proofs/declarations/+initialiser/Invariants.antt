@@ -17,4 +17,4 @@ decreases-initialisers l = 3 * l.depth + 1
 abbrev pub invariant-initialisers-loop-turn : goal.invariant-initialisers-loop-turn
 invariant-initialisers-loop-turn l =
     listed (kinds_of l.tokens) (initialiser (kinds_of l.tokens) l.depth) l.depth l.fn.place
-        ≡ prefixed l.found (listed (kinds_of l.tokens) (initialiser (kinds_of l.tokens) l.depth) (l.depth - l.turn) l.place)
+    ≡ prefixed l.found (listed (kinds_of l.tokens) (initialiser (kinds_of l.tokens) l.depth) (l.depth - l.turn) l.place)

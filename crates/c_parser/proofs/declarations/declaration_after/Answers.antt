@@ -1,4 +1,4 @@
-use Rattle.std.proofs.Common.{◌≡◌, rules}
+use Rattle.std.proofs.Common.{rules}
 use Rattle.c_tree.specs.SpellsText.{kinds_of}
 use Rattle.c_grammar.specs.Marks.{mark_at}
 use Rattle.c_expressions.specs.declared.marks.Mark.TheVariants as mark

@@ -1,4 +1,4 @@
-use Rattle.std.proofs.Common.{◌≡◌, rules, arith}
+use Rattle.std.proofs.Common.{rules}
 use Rattle.c_parser.proofs.StatementLists.{text_read}
 use Rattle.c_parser.proofs.externals.text.Goals as goal
 

@@ -1,4 +1,4 @@
-use Rattle.std.proofs.Common.{◌≡◌, rules}
+use Rattle.std.proofs.Common.{rules}
 use Rattle.c_parser.proofs.WholeTexts.{refused_whole}
 use Rattle.c_parser.proofs.parser.parse.Goals as goal
 

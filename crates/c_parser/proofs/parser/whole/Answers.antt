@@ -1,4 +1,3 @@
-use Rattle.std.proofs.Common.{◌≡◌, rules}
 use Rattle.c_parser.proofs.WholeTexts.{spelled, unspelled}
 use Rattle.c_parser.proofs.parser.whole.Goals as goal
 

@@ -1,4 +1,4 @@
-use Rattle.std.proofs.Common.{◌≡◌, arith}
+use Rattle.std.proofs.Common.{arith}
 use Rattle.c_tree.specs.SpellsText.{kinds_of}
 use Rattle.c_parser.proofs.StatementKnots.{refuses, statement_none, statement_deeper}
 use Rattle.c_parser.proofs.statements.+statement.Goals as goal

@@ -1,4 +1,4 @@
-use Rattle.std.proofs.Common.{◌≡◌, ◌-◌, ap, sym, ◌∙◌, rules, arith}
+use Rattle.std.proofs.Common.{◌≡◌, ap, sym, ◌∙◌, rules, arith}
 use Rattle.c_tree.specs.Places.{Place, enter, leave}
 use Rattle.c_tree.specs.SpellsText.{kinds_of}
 use Rattle.c_grammar.specs.Reader.{Outcome, Gives, and_then}
@@ -17,9 +17,11 @@ loop-turn-init g c =
 
 pub loop-turn-preserved : goal.loop-turn-preserved
 loop-turn-preserved g c =
-    let kinds = kinds_of c.args.self.now.tokens.now in
-    (chain_goes_on kinds (read kinds c.args.self.now.steps) (statement kinds c.args.self.now.depth) c.args.self.now.steps c.loop-turn.turn _ _ _ _ _ _ _
-    c.loop-turn.invariant.0 (omega arith) c.in_ok-branch.ensures (search rules) (search rules) (search rules) (search rules), search rules)
+    let kinds = kinds_of c.args.self.now.tokens.now in (
+      chain_goes_on kinds (read kinds c.args.self.now.steps) (statement kinds c.args.self.now.depth) c.args.self.now.steps c.loop-turn.turn _ _ _ _ _ _ _
+          c.loop-turn.invariant.0 (omega arith) c.in_ok-branch.ensures (search rules) (search rules) (search rules) (search rules),
+      search rules,
+    )
 
 pub returns-in_err-branch : goal.returns-in_err-branch
 returns-in_err-branch g c =

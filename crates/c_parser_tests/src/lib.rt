@@ -1,0 +1,139 @@
+//! Texts of C, and what the parser says of each.
+#![tactic(auto)]
+
+#[cfg(test)]
+mod declarations;
+#[cfg(test)]
+mod expressions;
+#[cfg(test)]
+mod limits;
+#[cfg(test)]
+mod scopes;
+#[cfg(test)]
+mod statements;
+
+use c_lexer::{LexFault, MAX_BYTES, lex};
+use c_model::{DataModel, Token};
+use c_parser::{ParseFault, parse};
+use c_tree::{BlockItem, External, Statement, Tree};
+use std::alloc::{AllocError, Global};
+
+/// The word for a token.
+fn word_at(alloc: Global, tokens: &[Token], at: usize) -> Result<String, AllocError> {
+    match tokens.get(at) {
+        Some(Token { kind, .. }) => format!(in alloc; "{kind:?}"),
+        None => String::from_str(alloc, "no token"),
+    }
+}
+
+fn shown_fault(alloc: Global, tokens: &[Token], fault: ParseFault) -> Result<String, AllocError> {
+    match fault {
+        ParseFault::LeftOut { at } => {
+            let word = word_at(alloc, tokens, at)?;
+            format!(in alloc; "left out: {word} at {at}")
+        }
+        ParseFault::TooDeep { at } => format!(in alloc; "nested too deep at {at}"),
+        ParseFault::Syntax { .. } => String::from_str(alloc, "syntax"),
+        ParseFault::NoMemory => Err(AllocError),
+    }
+}
+
+/// A word for a statement; what stands in it where that is a branch.
+fn statement_word(statement: &Statement) -> &'static str {
+    match statement {
+        Statement::Block { .. } => "block",
+        Statement::Empty { .. } => "empty",
+        Statement::Value { .. } => "value",
+        Statement::Label { .. } => "label",
+        Statement::Case { .. } => "case",
+        Statement::Default { .. } => "default",
+        Statement::If { .. } => "if",
+        Statement::IfElse { .. } => "if else",
+        Statement::Switch { .. } => "switch",
+        Statement::While { .. } => "while",
+        Statement::Do { .. } => "do",
+        Statement::For { .. } => "for",
+        Statement::Break { .. } => "break",
+        Statement::Continue { .. } => "continue",
+        Statement::Return { .. } => "return",
+    }
+}
+
+/// What each branch of a statement runs, in brackets, and the statement of a last `else`.
+fn shown_statement(alloc: Global, statement: &Statement) -> Result<String, AllocError> {
+    let mut line = String::from_str(alloc, statement_word(statement))?;
+    if let Statement::If { branches } | Statement::IfElse { branches, .. } = statement {
+        for branch in branches.as_slice() {
+            line.push('(')?;
+            line.push_str(statement_word(&branch.body))?;
+            line.push(')')?;
+        }
+    }
+    if let Statement::IfElse { otherwise, .. } = statement {
+        line.push(' ')?;
+        line.push_str(statement_word(otherwise.get()))?;
+    }
+    Ok(line)
+}
+
+fn shown_items(alloc: Global, items: &[BlockItem]) -> Result<String, AllocError> {
+    let mut line = String::new(alloc);
+    for item in items {
+        if !line.is_empty() {
+            line.push_str("; ")?;
+        }
+        match item {
+            BlockItem::Declared { .. } => line.push_str("declaration")?,
+            BlockItem::Run { statement } => { line.push_str(&shown_statement(alloc, statement)?)? }
+        }
+    }
+    Ok(line)
+}
+
+/// The items of the last function of a text.
+fn shown_tree(alloc: Global, tree: &Tree) -> Result<String, AllocError> {
+    match tree.externals.as_slice() {
+        [.., External::Defined { body, .. }] => shown_items(alloc, body.as_slice()),
+        _ => String::from_str(alloc, "no function"),
+    }
+}
+
+/// The items of the last function of a text, or why it has no tree.
+///
+/// # Errors
+///
+/// Want of memory.
+pub fn shown(alloc: Global, text: &[u8]) -> Result<String, AllocError> {
+    if text.len() > MAX_BYTES {
+        return String::from_str(alloc, "too long");
+    }
+    let tokens = match lex(alloc, text, DataModel::Lp64) {
+        Ok(tokens) => tokens,
+        Err(LexFault::NoMemory) => return Err(AllocError),
+        Err(fault) => return format!(in alloc; "{fault}"),
+    };
+    match parse(alloc, &tokens) {
+        Ok(tree) => shown_tree(alloc, &tree),
+        Err(fault) => shown_fault(alloc, tokens.as_slice(), fault),
+    }
+}
+
+/// The same, with `accepted` for each tree.
+///
+/// # Errors
+///
+/// Want of memory.
+pub fn answer(alloc: Global, text: &[u8]) -> Result<String, AllocError> {
+    if text.len() > MAX_BYTES {
+        return String::from_str(alloc, "too long");
+    }
+    let tokens = match lex(alloc, text, DataModel::Lp64) {
+        Ok(tokens) => tokens,
+        Err(LexFault::NoMemory) => return Err(AllocError),
+        Err(fault) => return format!(in alloc; "{fault}"),
+    };
+    match parse(alloc, &tokens) {
+        Ok(_) => String::from_str(alloc, "accepted"),
+        Err(fault) => shown_fault(alloc, tokens.as_slice(), fault),
+    }
+}
