@@ -179,37 +179,3 @@ impl Counts {
         }
     }
 }
-
-#[cfg(test)]
-mod tests {
-    use super::*;
-    use std::test::Fail;
-
-    /// So many closing brackets, and then a left-out word.
-    fn closing(alloc: Global, count: usize) -> Result<Vec<Token>, NoMemory> {
-        let mut tokens = Vec::new(alloc);
-        for _ in 0..count {
-            tokens.push(Token {
-                kind: TokenKind::RightParenthesis,
-                at: 0,
-                line: 1,
-            })?;
-        }
-        tokens.push(Token {
-            kind: TokenKind::Goto,
-            at: 0,
-            line: 1,
-        })?;
-        Ok(tokens)
-    }
-
-    #[test]
-    fn brackets_that_close_nothing(rt: HostRuntime) -> Result<(), Fail> {
-        for (count, found) in [(498, None), (499, Some(499)), (600, Some(499))] {
-            let tokens = closing(rt.alloc(), count)?;
-            assert_eq!(rt; first_too_deep(rt.alloc(), tokens.as_slice())?, found);
-            assert_eq!(rt; first_left_out(tokens.as_slice()), Some(count));
-        }
-        Ok(())
-    }
-}
