@@ -2,7 +2,7 @@
 use Rattle.std.proofs.Common.{◌≡◌, ℕ, zero, suc, ◌<◌, ◌≤◌, Bool, true, false, nat_lt, cond, List, length, take, Option, Some, None, arith, refl, codes, sym, subst}
 use Rattle.std.proofs.lemmas.Bool.Decides.{nat_tests}
 use Rattle.c_model.specs.Pieces.{Shape, Piece, shape_of, longest, first_piece, begins_with}
-use Rattle.c_lexer.specs.Fronts.{piece}
+use Rattle.c_scan.specs.Fronts.{piece}
 
 pub record HasSize (low n : ℕ) (p : Piece) : Type 0 where
   pub above : low < p.size

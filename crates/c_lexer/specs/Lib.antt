@@ -1,9 +1,6 @@
-pub mod Rows
-pub mod Runs
-pub mod Fronts
-pub mod Escapes
-pub mod Numbers
 pub mod HeaderRows
 pub mod Forms
+pub mod Chains
 pub mod Tables
+pub mod Nexts
 pub mod Steps

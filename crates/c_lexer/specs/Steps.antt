@@ -6,8 +6,8 @@ use Rattle.c_model.specs.declared.data_model.DataModel.{DataModel}
 use Rattle.c_lexer.specs.declared.lexer.LexFault.{LexFault}
 use Rattle.c_lexer.specs.declared.lexer.LexFault.TheVariants as faults
 use Rattle.c_lexer.specs.declared.lexer.Reader.{Reader}
-use Rattle.c_lexer.specs.declared.words.Vocabulary.{Vocabulary}
-use Rattle.c_lexer.specs.Rows.{rows}
+use Rattle.c_scan.specs.declared.words.Vocabulary.{Vocabulary}
+use Rattle.c_scan.specs.Rows.{rows}
 use Rattle.c_lexer.specs.Tables.{IsKnown, names_view}
 
 abbrev pub state_view : Reader → State

@@ -1,28 +1,29 @@
 -- What the code keeps of names as the definition's.
 use Rattle.std.specs.Prelude.{◌≡◌, ℕ, Bool, true, false, List, map, Option, Some, None, Vec}
 use Rattle.c_model.specs.Reading.{Names as SpecNames, given}
-use Rattle.c_lexer.specs.Rows.{rows}
+use Rattle.c_scan.specs.Rows.{rows}
 use Rattle.c_lexer.specs.declared.names.Names.{Names}
-use Rattle.c_lexer.specs.declared.names.Definition.{Definition}
+use Rattle.c_lexer.specs.Chains.{IsLinked}
 
 abbrev pub texts_view : {Z : Type 0} → List (Vec ℕ Z) → List (List ℕ)
 texts_view texts = map (λ text. text.items) texts
 
-abbrev pub definitions : List Definition → List (List ℕ × List ℕ)
-definitions defined = map (λ definition. (definition.name.items, definition.text.items)) defined
+abbrev pub definitions : {Z : Type 0} → List (Vec ℕ Z × Vec ℕ Z) → List (List ℕ × List ℕ)
+definitions entries = map (λ entry. (entry.0.items, entry.1.items)) entries
 
 abbrev pub names_view : Names → SpecNames
 names_view names = record {
-  defined = definitions names.defined.items;
+  defined = definitions names.defined.entries;
   limits = names.limits;
   stdbool = names.stdbool;
   stddef = names.stddef;
   stdint = names.stdint;
 }
 
--- the rows that are kept are those of the included headers
-abbrev pub IsKnown : Names → Type 0
-IsKnown names = rows names.given.items ≡ given names.model (names_view names)
+-- the rows that are kept are those of the included headers, and the definitions are linked
+pub record IsKnown (names : Names) : Type 0 where
+  pub given_are : rows names.given.items ≡ given names.model (names_view names)
+  pub linked : IsLinked (names_view names).defined names.ahead.items
 
 -- what a directive did to names: it was taken, and they are so now, or it was not
 abbrev pub Tells : Bool → Option SpecNames → SpecNames → Type 0

@@ -6,9 +6,8 @@ ghost use Rattle.c_lexer.specs.Forms.{context_view, form_view, replacement_size,
 ghost use Rattle.std.specs.Prelude.{◌<◌, drop};
 ghost use Rattle.c_model.specs.Directives.{InQuotes, InBlock};
 
-use crate::bytes::{Run, begins_digit, begins_name, begins_number, is_blank, run_size};
-use crate::constants::suffix_of;
 use crate::headers::{Header, find_header};
+use c_scan::{Run, begins_digit, begins_name, begins_number, is_blank, run_size, suffix_of};
 use kv_base::{Bytes, NoMemory, Sequence};
 use std::alloc::Global;
 

@@ -3,19 +3,16 @@ ghost use Rattle.std.specs.List.{list_any};
 ghost use Rattle.c_model.specs.Reading.{Goes, Read, beginning, directive_step, divided, form_step, is_too_large, kind_of_name, large_constant, moved, newlines, number_step, piece_step, reading, shape_step, splice_from, with_token};
 ghost use Rattle.c_model.specs.Pieces.{begins_with};
 ghost use Rattle.c_model.specs.Constants.{number_of};
-ghost use Rattle.c_lexer.specs.Numbers.{number_view};
+ghost use Rattle.c_scan.specs.Numbers.{number_view};
 ghost use Rattle.c_lexer.specs.Forms.{form_view};
-ghost use Rattle.c_lexer.specs.Fronts.{shape_of};
+ghost use Rattle.c_scan.specs.Fronts.{shape_of};
 ghost use Rattle.c_lexer.specs.Tables.{Tells, names_view};
 ghost use Rattle.c_lexer.specs.Steps.{fault_place, IsFault, IsReady, IsStop, IsVocabulary, state_view, step_at};
 
-use crate::bytes::begins_digit;
-use crate::constants::{Number, char_value, number_of};
 use crate::directives::{Form, form_of, line_of, open_comment};
 use crate::names::Names;
-use crate::pieces::{Piece, Shape, first_piece};
-use crate::words::Vocabulary;
 use c_model::{DataModel, Token, TokenKind, Tokens};
+use c_scan::{Number, Piece, Shape, Vocabulary, begins_digit, char_value, first_piece, number_of};
 use kv_base::NoMemory;
 use kv_num::IntType;
 use std::alloc::Global;
@@ -169,14 +166,17 @@ impl Reader {
 
     /// What a word or name is.
     fn word(
-        &self,
+        &mut self,
         alloc: Global,
         vocabulary: &Vocabulary,
         text: &[u8],
     ) -> Result<TokenKind, NoMemory>
-        requires ready { IsReady self.now.model self.now }
+        requires ready { IsReady self.old.model self.old }
         requires tables { IsVocabulary vocabulary.now }
-        ensures { IfOk result (λ kind. kind ≡ kind_of_name self.now.model (names_view self.now.names) text.now) }
+        ensures kind { IfOk result (λ kind. kind ≡ kind_of_name self.old.model (names_view self.old.names) text.now) }
+        ensures state { state_view self.new ≡ state_view self.old }
+        ensures ready { IsReady self.old.model self.new }
+        ensures model { self.new.model ≡ self.old.model }
     {
         self.names.kind_of_name(alloc, &vocabulary.words, text)
     }

@@ -1,13 +1,9 @@
 //! The tokens of a C text: longest match, directives and replacements (C11 6.4, 6.10).
 #![tactic(auto)]
 
-mod bytes;
-mod constants;
 mod directives;
 mod headers;
 mod lexer;
 mod names;
-mod pieces;
-mod words;
 
 pub use lexer::{LexFault, MAX_BYTES, MAX_TOKENS, lex};

@@ -1,29 +1,29 @@
-ghost use Rattle.std.specs.Prelude.{◌≡◌, ◌++◌, length, Some, None, List, ℕ, IfOk, OnOk, if◌then◌else◌};
-ghost use Rattle.std.specs.Borrow.{Bor};
+ghost use Rattle.std.specs.Prelude.{◌≡◌, ◌++◌, ◌<◌, length, Some, None, IfOk, IfSome, MatchOption, OnOk};
+ghost use Rattle.c_lexer.specs.Chains.{Becomes, IsAhead, IsNoWord, IsPlace, name_at, text_at};
+ghost use Rattle.c_lexer.specs.Nexts.{IsNext};
 ghost use Rattle.std.specs.List.{list_any};
-ghost use Rattle.std.specs.Option.{option_map};
-ghost use Rattle.std.specs.Str.{bytes_eq};
 ghost use Rattle.c_model.specs.Words.{lookup, words};
 ghost use Rattle.c_model.specs.Headers.{names_of, limits_names, stdbool_names, stddef_names, stdint_names};
 ghost use Rattle.c_model.specs.Reading.{defined, given, given_or_name, if_included, include_header, included, is_defined, kind_of_name, no_names, number_kind};
-ghost use Rattle.c_lexer.specs.Rows.{rows};
+ghost use Rattle.c_scan.specs.Rows.{rows};
 ghost use Rattle.c_lexer.specs.HeaderRows.{header_view};
-ghost use Rattle.c_lexer.specs.Numbers.{number_view};
-ghost use Rattle.c_lexer.specs.Tables.{IsKnown, definitions, Tells, names_view, texts_view};
+ghost use Rattle.c_scan.specs.Numbers.{number_view};
+ghost use Rattle.c_lexer.specs.Tables.{IsKnown, Tells, names_view};
 
-use crate::bytes::begins_digit;
-use crate::constants::{Number, number_of};
 use crate::headers::{Header, limits_rows, stdbool_rows, stddef_rows, stdint_rows};
-use crate::words::{Row, find};
 use c_model::{DataModel, TokenKind};
+use c_scan::{Number, Row, begins_digit, find, number_of};
+use indexmap::{IndexMap, IndexSet};
 use kv_base::{NoMemory, Sequence};
 use std::alloc::Global;
 
-/// A defined name, and the text that replaces it.
+/// What comes next on a chain of replacements.
 #[derive(Drop)]
-pub(crate) struct Definition {
-    name: Vec<u8>,
-    text: Vec<u8>,
+enum Next {
+    /// A token, which isn't replaced again.
+    Ends(TokenKind),
+    /// The definition at this place.
+    Goes(usize),
 }
 
 /// What the directives so far say of names: the text that replaces each defined one, and what the
@@ -31,7 +31,9 @@ pub(crate) struct Definition {
 #[derive(Drop)]
 pub(crate) struct Names {
     model: DataModel,
-    defined: Vec<Definition>,
+    defined: IndexMap<Vec<u8>, Vec<u8>>,
+    /// For the definition at each place, one whose name is reached from its name.
+    ahead: Vec<usize>,
     limits: bool,
     stdbool: bool,
     stddef: bool,
@@ -51,34 +53,11 @@ fn number_kind(number: Number) -> TokenKind
     }
 }
 
-fn contains(texts: &[Vec<u8>], text: &[u8]) -> bool
-    ensures { result ≡ list_any (bytes_eq text.now) (texts_view texts.now) }
-{
-    for other in texts {
-        if text == other.as_slice() {
-            return true;
-        }
-    }
-    false
-}
-
 fn append(rows: &mut Vec<Row>, more: Vec<Row>) -> Result<(), NoMemory>
     ensures { OnOk result (rows.new.items ≡ rows.old.items ++ more.items) }
 {
     let mut more = more;
     rows.append(&mut more)
-}
-
-/// The text of the first definition of a name.
-fn text_in<'a>(defined: &'a [Definition], name: &[u8]) -> Option<&'a [u8]>
-    ensures { option_map (λ (text : Bor (List ℕ)). text.now) result ≡ lookup (definitions defined.entry.now) name.now }
-{
-    for definition in defined {
-        if definition.name.as_slice() == name {
-            return Some(definition.text.as_slice());
-        }
-    }
-    None
 }
 
 impl Names {
@@ -89,7 +68,8 @@ impl Names {
     {
         Names {
             model,
-            defined: Vec::new(alloc),
+            defined: IndexMap::new(alloc),
+            ahead: Vec::new(alloc),
             limits: false,
             stdbool: false,
             stddef: false,
@@ -98,11 +78,25 @@ impl Names {
         }
     }
 
-    /// The text that replaces a name.
-    fn text_of(&self, name: &[u8]) -> Option<&[u8]>
-        ensures { option_map (λ (text : Bor (List ℕ)). text.now) result ≡ lookup (names_view self.entry.now).defined name.now }
+    /// The place of a name's definition.
+    fn place_of(&self, name: &[u8]) -> Option<usize>
+        ensures { MatchOption result (lookup (names_view self.now).defined name.now ≡ None) (IsPlace (names_view self.now).defined name.now) }
     {
-        text_in(&self.defined, name)
+        match self.defined.get_full(name) {
+            Some((place, _, _)) => Some(place),
+            None => None,
+        }
+    }
+
+    /// The text of the definition at a place.
+    fn text_at(&self, place: usize) -> &[u8]
+        requires { place < length (names_view self.now).defined }
+        ensures { result.now ≡ text_at (names_view self.entry.now).defined place }
+    {
+        match self.defined.get_index(place) {
+            Some((_, text)) => text.as_slice(),
+            None => unreachable!(),
+        }
     }
 
     /// What a name is that no `#define` replaces.
@@ -118,8 +112,8 @@ impl Names {
         }
     }
 
-    /// What a name is after all its replacements (C11 6.10.3.4).
-    pub(crate) fn kind_of_name(
+    /// What a name is after all its replacements, by making each of them.
+    fn replaced_in_turn(
         &self,
         alloc: Global,
         table: &[Row],
@@ -129,7 +123,7 @@ impl Names {
         requires known { IsKnown self.now }
         ensures { IfOk result (λ kind. kind ≡ kind_of_name self.now.model (names_view self.now) name.now) }
     {
-        let mut met: Vec<Vec<u8>> = Vec::new(alloc);
+        let mut met: IndexSet<Vec<u8>> = IndexSet::new(alloc);
         let mut current = Vec::from_slice(alloc, name)?;
         let mut left = self.defined.len() + 1;
         while left > 0 {
@@ -137,24 +131,140 @@ impl Names {
             if let Some(kind) = find(alloc, table, &current)? {
                 return Ok(kind);
             }
-            if contains(&met, &current) {
+            if met.contains(current.as_slice()) {
                 return Ok(TokenKind::Name {
                     text: Sequence::from_vec(current),
                 });
             }
-            let Some(text) = self.text_of(&current) else {
+            let Some(place) = self.place_of(&current) else {
                 return self.given_or_name(alloc, &current);
             };
+            let text = self.text_at(place);
             if begins_digit(text) {
                 return Ok(number_kind(number_of(self.model, text)));
             }
             let next = Vec::from_slice(alloc, text)?;
-            met.push(current)?;
+            met.insert(current)?;
             current = next;
         }
         Ok(TokenKind::Name {
             text: Sequence::from_vec(current),
         })
+    }
+
+    /// What replaces the name of the definition at a place.
+    fn next(&self, alloc: Global, table: &[Row], place: usize) -> Result<Next, NoMemory>
+        requires table { rows table.now ≡ words }
+        requires known { IsKnown self.now }
+        requires place { place < length (names_view self.now).defined }
+        requires no_word { IsNoWord (name_at (names_view self.now).defined place) }
+        ensures { IfOk result (IsNext self.now.model (names_view self.now) (name_at (names_view self.now).defined place)) }
+    {
+        let text = self.text_at(place);
+        if begins_digit(text) {
+            return Ok(Next::Ends(number_kind(number_of(self.model, text))));
+        }
+        if let Some(kind) = find(alloc, table, text)? {
+            return Ok(Next::Ends(kind));
+        }
+        match self.place_of(text) {
+            Some(place) => Ok(Next::Goes(place)),
+            None => Ok(Next::Ends(self.given_or_name(alloc, text)?)),
+        }
+    }
+
+    /// Notes that the definition at a place reaches another one.
+    fn link(&mut self, at: usize, place: usize)
+        requires known { IsKnown self.old }
+        requires at { at < length (names_view self.old).defined }
+        requires ahead { IsAhead (names_view self.old).defined at place }
+        ensures names { names_view self.new ≡ names_view self.old }
+        ensures known { IsKnown self.new }
+        ensures model { self.new.model ≡ self.old.model }
+    {
+        self.ahead[at] = place;
+    }
+
+    /// What comes on the chain after the definition at a place, which is linked further ahead.
+    fn advance(&mut self, alloc: Global, table: &[Row], at: usize) -> Result<Next, NoMemory>
+        requires table { rows table.now ≡ words }
+        requires known { IsKnown self.old }
+        requires place { at < length (names_view self.old).defined }
+        requires no_word { IsNoWord (name_at (names_view self.old).defined at) }
+        ensures next { IfOk result (IsNext self.old.model (names_view self.old) (name_at (names_view self.old).defined at)) }
+        ensures names { names_view self.new ≡ names_view self.old }
+        ensures known { IsKnown self.new }
+        ensures model { self.new.model ≡ self.old.model }
+    {
+        let ahead = self.ahead[at];
+        if ahead != at {
+            let after = self.ahead[ahead];
+            self.link(at, after);
+            return Ok(Next::Goes(after));
+        }
+        match self.next(alloc, table, at)? {
+            Next::Goes(place) => {
+                self.link(at, place);
+                Ok(Next::Goes(place))
+            }
+            Next::Ends(kind) => Ok(Next::Ends(kind)),
+        }
+    }
+
+    /// What stands at the end of the chain from the definition at a place on, unless it comes back to one.
+    fn end_from(
+        &mut self,
+        alloc: Global,
+        table: &[Row],
+        first: usize,
+    ) -> Result<Option<TokenKind>, NoMemory>
+        requires table { rows table.now ≡ words }
+        requires known { IsKnown self.old }
+        requires place { first < length (names_view self.old).defined }
+        requires no_word { IsNoWord (name_at (names_view self.old).defined first) }
+        ensures kind { IfOk result (λ found. IfSome found (Becomes self.old.model (names_view self.old) (name_at (names_view self.old).defined first))) }
+        ensures names { names_view self.new ≡ names_view self.old }
+        ensures known { IsKnown self.new }
+        ensures model { self.new.model ≡ self.old.model }
+    {
+        let mut met: IndexSet<usize> = IndexSet::new(alloc);
+        let mut at = first;
+        for _turn in 0..=self.defined.len() {
+            if !met.insert(at)? {
+                return Ok(None);
+            }
+            match self.advance(alloc, table, at)? {
+                Next::Goes(place) => at = place,
+                Next::Ends(kind) => return Ok(Some(kind)),
+            }
+        }
+        Ok(None)
+    }
+
+    /// What a name is after all its replacements (C11 6.10.3.4).
+    pub(crate) fn kind_of_name(
+        &mut self,
+        alloc: Global,
+        table: &[Row],
+        name: &[u8],
+    ) -> Result<TokenKind, NoMemory>
+        requires table { rows table.now ≡ words }
+        requires known { IsKnown self.old }
+        ensures kind { IfOk result (λ kind. kind ≡ kind_of_name self.old.model (names_view self.old) name.now) }
+        ensures names { names_view self.new ≡ names_view self.old }
+        ensures known { IsKnown self.new }
+        ensures model { self.new.model ≡ self.old.model }
+    {
+        if let Some(kind) = find(alloc, table, name)? {
+            return Ok(kind);
+        }
+        let Some(first) = self.place_of(name) else {
+            return self.given_or_name(alloc, name);
+        };
+        match self.end_from(alloc, table, first)? {
+            Some(kind) => Ok(kind),
+            None => self.replaced_in_turn(alloc, table, name),
+        }
     }
 
     /// The names of a header.
@@ -175,7 +285,7 @@ impl Names {
         ensures { result ≡ list_any (λ row. is_defined (names_view self.now) row.0) (rows table.now) }
     {
         for row in table {
-            if self.text_of(row.text).is_some() {
+            if self.place_of(row.text).is_some() {
                 return true;
             }
         }
@@ -232,6 +342,7 @@ impl Names {
     /// Notes that a header is included.
     fn mark(&mut self, header: Header)
         ensures names { names_view self.new ≡ include_header (names_view self.old) (header_view header) }
+        ensures ahead { self.new.ahead ≡ self.old.ahead }
         ensures model { self.new.model ≡ self.old.model }
     {
         match header {
@@ -276,15 +387,14 @@ impl Names {
         if find(alloc, &self.given, name)?.is_some() {
             return Ok(false);
         }
-        if let Some(other) = self.text_of(name) {
-            return Ok(other == text);
+        if let Some(place) = self.place_of(name) {
+            return Ok(self.text_at(place) == text);
         }
         let key = Vec::from_slice(alloc, name)?;
         let value = Vec::from_slice(alloc, text)?;
-        self.defined.push(Definition {
-            name: key,
-            text: value,
-        })?;
+        let place = self.defined.len();
+        self.defined.insert(key, value)?;
+        self.ahead.push(place)?;
         Ok(true)
     }
 }

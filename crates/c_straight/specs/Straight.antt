@@ -59,10 +59,10 @@ number_of _ _ = None
 
 abbrev pub operand_of : Expression → Option Operand
 operand_of x = elim (out-Expression x) as (λ _. Option Operand) [
-    | e.«Expression::Name» name at ↦ Some (operand.Name name)
-    | e.Constant kind value at ↦ number_of kind value
-    | _ ↦ None
-  ]
+  | e.«Expression::Name» name at ↦ Some (operand.Name name)
+  | e.Constant kind value at ↦ number_of kind value
+  | _ ↦ None
+]
 
 abbrev pub sign_of : BinaryOperator → Option Sign
 sign_of binary.Add = Some Plus
@@ -77,9 +77,9 @@ with_addend sum sign x = record { first = sum.first; rest = sum.rest ++ record {
 
 abbrev pub sum_by : (Expression → Option Sum) → Expression → Option Sum
 sum_by left_sum x = elim (out-Expression x) as (λ _. Option Sum) [
-    | e.Binary operator left right at ↦ and_then (sign_of operator) (λ sign. and_then (left_sum left) (λ sum. and_then (operand_of right) (λ o. Some (with_addend sum sign o))))
-    | _ ↦ and_then (operand_of x) (λ o. Some (alone o))
-  ]
+  | e.Binary operator left right at ↦ and_then (sign_of operator) (λ sign. and_then (left_sum left) (λ sum. and_then (operand_of right) (λ o. Some (with_addend sum sign o))))
+  | _ ↦ and_then (operand_of x) (λ o. Some (alone o))
+]
 
 -- a sum of at most n operands; a text has no sum of more operands than it has tokens
 unfoldable pub sum_of : ℕ → Expression → Option Sum
@@ -153,10 +153,10 @@ call_of tokens n function _ = None
 
 abbrev pub value_item : List Token → ℕ → Expression → Option BlockItem
 value_item tokens n x = elim (out-Expression x) as (λ _. Option BlockItem) [
-    | e.Assign operator target value at ↦ assignment_of tokens n operator target value
-    | e.Call function arguments at ↦ call_of tokens n function arguments
-    | _ ↦ None
-  ]
+  | e.Assign operator target value at ↦ assignment_of tokens n operator target value
+  | e.Call function arguments at ↦ call_of tokens n function arguments
+  | _ ↦ None
+]
 
 abbrev pub statement_item : List Token → ℕ → Statement → Option BlockItem
 statement_item tokens n x = elim (out-Statement x) as (λ _. Option BlockItem) [ t.Value value at ↦ value_item tokens n value | _ ↦ None ]
@@ -177,9 +177,9 @@ gives_zero None = false
 -- `return 0;`
 abbrev pub returns_zero : TreeItem → Bool
 returns_zero x = elim (out-BlockItem x) as (λ _. Bool) [
-    | b.Run statement ↦ elim (out-Statement statement) as (λ _. Bool) [ t.Return value at ↦ gives_zero value | _ ↦ false ]
-    | _ ↦ false
-  ]
+  | b.Run statement ↦ elim (out-Statement statement) as (λ _. Bool) [ t.Return value at ↦ gives_zero value | _ ↦ false ]
+  | _ ↦ false
+]
 
 -- items, and `return 0;` behind them
 unfoldable pub body_of : List Token → ℕ → List TreeItem → Option (List BlockItem)
@@ -208,9 +208,9 @@ is_none _ = false
 -- `main(void)`
 abbrev pub names_main : Declarator → Bool
 names_main x = elim (out-Declarator x) as (λ _. Bool) [
-    | d.«Declarator::Function» inner parameters variadic at ↦ is_named (codes "main") (name_of inner) && (is_none parameters && not variadic)
-    | _ ↦ false
-  ]
+  | d.«Declarator::Function» inner parameters variadic at ↦ is_named (codes "main") (name_of inner) && (is_none parameters && not variadic)
+  | _ ↦ false
+]
 
 abbrev pub items_of : List Token → List External → Option (List BlockItem)
 items_of tokens (external.Defined specifiers declarator body at ∷ []) =

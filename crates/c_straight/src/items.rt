@@ -58,7 +58,12 @@ pub fn int_place(list: &[Specifier]) -> Option<usize>
     ensures { result ≡ spec.int_place list.now }
 {
     match list {
-        [Specifier::Base { word: BaseWord::Int, at }] => Some(*at),
+        [
+            Specifier::Base {
+                word: BaseWord::Int,
+                at,
+            },
+        ] => Some(*at),
         _ => None,
     }
 }

@@ -53,7 +53,8 @@ fn returns_zero(alloc: Global, x: &BlockItem) -> Result<bool, NoMemory>
     match x {
         BlockItem::Run {
             statement: Statement::Return {
-                value: Some(value), ..
+                value: Some(value),
+                ..
             },
         } => is_zero(alloc, value),
         _ => Ok(false),
@@ -104,12 +105,14 @@ fn names_main(x: &Declarator) -> bool
 fn items(reader: &Reader<'_>, externals: &[External]) -> Result<Option<BlockItems>, NoMemory>
     ensures { IfOk result (λ made. reader.now.depth ≡ length reader.now.tokens.now → made ≡ spec.items_of reader.now.tokens.now externals.now) }
 {
-    let [External::Defined {
-        specifiers,
-        declarator,
-        body: inside,
-        ..
-    }] = externals
+    let [
+        External::Defined {
+            specifiers,
+            declarator,
+            body: inside,
+            ..
+        },
+    ] = externals
     else {
         return Ok(None);
     };

@@ -49,11 +49,7 @@ pub fn in_pieces(
     ensures { IfOk result (λ files. ⟦<MemFiles as Files>⟧.told files
         ≡ Some (folder_of (record { name = name.now; content = content.now } ∷ []))) }
 {
-    Ok(MemFiles::in_pieces(
-        alloc,
-        one_file(alloc, name, content)?,
-        size,
-    ))
+    Ok(MemFiles::in_pieces(alloc, one_file(alloc, name, content)?, size))
 }
 
 /// Runs the program on these words.

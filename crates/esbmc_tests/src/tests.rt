@@ -132,11 +132,17 @@ fn refused_sources(rt: HostRuntime) -> Result<(), Fail> {
             b"error: line 1: left out: floating constant\n",
         ),
         // What is left out comes before a fault of syntax.
-        (b"int main(void){while (goto", b"error: line 1: left out: goto\n"),
+        (
+            b"int main(void){while (goto",
+            b"error: line 1: left out: goto\n",
+        ),
         (b"int main(void){while (i <", b"error: line 1: syntax\n"),
         (b"\nint main(void){return 0;}}", b"error: line 2: syntax\n"),
         (b"int main(void){L:int x;}", b"error: line 1: syntax\n"),
-        (b"typedef int T; int main(void){T:;T x=1;}", b"error: not yet\n"),
+        (
+            b"typedef int T; int main(void){T:;T x=1;}",
+            b"error: not yet\n",
+        ),
     ];
     for (text, printed) in cases {
         let mut files = folder(alloc, b"a.c", text, &[])?;
@@ -171,12 +177,7 @@ fn texts_that_end_early(rt: HostRuntime) -> Result<(), Fail> {
 }
 
 /// What the program prints for so many equal bytes.
-fn printed_for(
-    alloc: Global,
-    byte: u8,
-    count: usize,
-    printed: &[u8],
-) -> Result<bool, NoMemory> {
+fn printed_for(alloc: Global, byte: u8, count: usize, printed: &[u8]) -> Result<bool, NoMemory> {
     let mut text = Vec::new(alloc);
     for _ in 0..count {
         text.push(byte)?;
@@ -225,6 +226,9 @@ fn files_without_end(rt: HostRuntime) -> Result<(), Fail> {
     let mut out = MemSink::new(alloc, Sequence::new(alloc));
     let outcome = run_words(alloc, &["a.c"], &mut files, &mut out)?;
     assert_eq!(rt; outcome.status, 5);
-    assert_eq!(rt; out.bytes(), b"error: file longer than 1048576 bytes\n".as_slice());
+    assert_eq!(rt;
+        out.bytes(),
+        b"error: file longer than 1048576 bytes\n".as_slice()
+    );
     Ok(())
 }

@@ -4,7 +4,7 @@ use Rattle.c_model.specs.Pieces.{first_piece}
 use Rattle.c_model.specs.Reading.{State, Step, Stops, NoToken, piece_step, shape_step, Goes}
 use Rattle.c_model.specs.Pieces.{Piece as SpecPiece}
 use Rattle.c_model.specs.declared.data_model.DataModel.{DataModel}
-use Rattle.c_lexer.specs.Fronts.{piece_of}
+use Rattle.c_scan.specs.Fronts.{piece_of}
 use Rattle.c_lexer.specs.Steps.{state_view}
 use Rattle.c_lexer.proofs.Sizes.{first_size}
 use Rattle.c_lexer.proofs.lexer.Reader.piece.Goals as goal

@@ -1,7 +1,7 @@
 use Rattle.std.proofs.Common.{◌≡◌, drop}
 use Rattle.std.specs.List.{list_any}
 use Rattle.c_model.specs.Reading.{is_defined}
-use Rattle.c_lexer.specs.Rows.{rows}
+use Rattle.c_scan.specs.Rows.{rows}
 use Rattle.c_lexer.specs.Tables.{names_view}
 use Rattle.c_lexer.proofs.names.Names.defines_any.Given as goal
 

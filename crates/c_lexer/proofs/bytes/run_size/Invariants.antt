@@ -1,8 +1,0 @@
-use Rattle.std.proofs.Common.{◌≡◌, ◌+◌, drop}
-use Rattle.c_model.specs.Pieces.{run_size}
-use Rattle.c_lexer.specs.Runs.{goes_on}
-use Rattle.c_lexer.proofs.bytes.run_size.Given as goal
-
--- the run goes on up to here
-abbrev pub invariant-loop-i : goal.invariant-loop-i
-invariant-loop-i l = l.i + run_size (goes_on l.run) l.last (drop l.i l.bytes) ≡ run_size (goes_on l.run) l.before l.bytes

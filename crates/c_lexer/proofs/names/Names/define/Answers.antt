@@ -1,0 +1,52 @@
+use Rattle.std.proofs.Common.{◌≡◌, false, [], ◌∷◌, ◌++◌, length, Some, None, ◌∙◌, sym, ap, subst}
+use Rattle.std.specs.Option.{is_some}
+use Rattle.c_model.specs.Words.{lookup}
+use Rattle.c_model.specs.Reading.{given}
+use Rattle.c_scan.specs.Rows.{rows}
+use Rattle.c_lexer.specs.Chains.{IsLinked}
+use Rattle.c_lexer.specs.Tables.{names_view, definitions}
+use Rattle.c_lexer.proofs.Places.{definitions_insert, definitions_length}
+use Rattle.c_lexer.proofs.Chains.{linked_push}
+use Rattle.c_lexer.proofs.Links.{defined_new}
+use Rattle.c_lexer.proofs.names.Names.define.Goals as goal
+
+pub returns-clause-told : goal.returns-clause-told
+returns-clause-told c =
+    let names = names_view c.args.self.now in
+    let name = c.args.name.now in
+    let text = c.args.text.now in
+    let key = c.in_ok-key.key in
+    let value = c.in_ok-value.value in
+    let new : lookup names.defined name ≡ None = c.in_default.ensures in
+    let named : key.items ≡ name = c.in_ok-key.ensures.items in
+    let valued : value.items ≡ text = c.in_ok-value.ensures.items in
+    let free : is_some (lookup (given c.args.self.now.model names) name) ≡ false =
+    sym (c.if-is_some.ensures ∙ ap is_some (c.in_ok-find.ensures ∙ ap (λ t. lookup (rows t) name) c.deref.ensures.value ∙ ap (λ table. lookup table name) c.requires.given_are)) in
+    let new_key : lookup names.defined key.items ≡ None = subst (λ n. lookup names.defined n ≡ None) (sym named) new in
+    let entries : definitions c.insert.new.self.entries ≡ names.defined ++ (name, text) ∷ [] =
+    ap definitions c.in_ok-insert.ensures.entries ∙ definitions_insert c.args.self.now.defined key value new_key
+    ∙ (λ i. names.defined ++ (named i, valued i) ∷ []) in
+    defined_new c.args.self.now.model names name text free new ∙ ap (λ d. Some (record names { defined = d })) (sym entries)
+
+pub returns-clause-known : goal.returns-clause-known
+returns-clause-known c =
+    let names = names_view c.args.self.now in
+    let name = c.args.name.now in
+    let text = c.args.text.now in
+    let key = c.in_ok-key.key in
+    let value = c.in_ok-value.value in
+    let new : lookup names.defined name ≡ None = c.in_default.ensures in
+    let named : key.items ≡ name = c.in_ok-key.ensures.items in
+    let valued : value.items ≡ text = c.in_ok-value.ensures.items in
+    let new_key : lookup names.defined key.items ≡ None = subst (λ n. lookup names.defined n ≡ None) (sym named) new in
+    let entries : definitions c.insert.new.self.entries ≡ names.defined ++ (name, text) ∷ [] =
+    ap definitions c.in_ok-insert.ensures.entries ∙ definitions_insert c.args.self.now.defined key value new_key
+    ∙ (λ i. names.defined ++ (named i, valued i) ∷ []) in
+    let place : c.len-place.result ≡ length names.defined = c.len-place.ensures.len ∙ sym (definitions_length c.args.self.now.defined.entries) in
+    let pushed : c.push.new.self.items ≡ c.args.self.now.ahead.items ++ length names.defined ∷ [] =
+    c.in_ok-push.ensures.items ∙ ap (λ n. c.args.self.now.ahead.items ++ n ∷ []) place in
+    record {
+      given_are = c.requires.given_are;
+      linked = subst (λ E. IsLinked E c.push.new.self.items) (sym entries)
+          (subst (IsLinked (names.defined ++ (name, text) ∷ [])) (sym pushed) (linked_push names.defined c.args.self.now.ahead.items name text c.requires.linked new));
+    }

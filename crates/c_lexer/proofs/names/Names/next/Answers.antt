@@ -1,0 +1,48 @@
+use Rattle.std.proofs.Common.{◌≡◌, Some, None, ◌∙◌, sym, ap, subst}
+use Rattle.c_model.specs.Words.{lookup, words}
+use Rattle.c_model.specs.Reading.{number_kind}
+use Rattle.c_lexer.specs.Chains.{Becomes, IsNoWord, Reaches, name_at}
+use Rattle.c_lexer.specs.Tables.{names_view}
+use Rattle.c_lexer.proofs.Chains.{reaches_edge}
+use Rattle.c_lexer.proofs.Links.{becomes_number, becomes_word, becomes_given, edge}
+use Rattle.c_lexer.proofs.names.Names.next.Goals as goal
+
+pub returns-then-begins_digit : goal.returns-then-begins_digit
+returns-then-begins_digit c =
+    let names = names_view c.args.self.now in
+    let x = name_at names.defined c.args.place in
+    let text = c.text_at-text.result.now in
+    let defined : lookup names.defined x ≡ Some text = c.requires.known.linked.texts c.args.place c.requires.place ∙ ap (λ t. Some t) (sym c.text_at-text.ensures) in
+    subst (Becomes c.args.self.now.model names x) (sym (c.number_kind.ensures ∙ ap number_kind c.number_of.ensures))
+    (becomes_number c.args.self.now.model names x text c.requires.no_word defined (sym c.if-begins_digit.ensures))
+
+pub returns-in-Some : goal.returns-in-Some
+returns-in-Some c =
+    let names = names_view c.args.self.now in
+    let x = name_at names.defined c.args.place in
+    let text = c.text_at-text.result.now in
+    let defined : lookup names.defined x ≡ Some text = c.requires.known.linked.texts c.args.place c.requires.place ∙ ap (λ t. Some t) (sym c.text_at-text.ensures) in
+    let word : lookup words text ≡ Some c.in-Some.kind = cc c.in_ok-kind.ensures in
+    becomes_word c.args.self.now.model names x text c.requires.no_word defined (sym c.if-begins_digit.ensures) c.in-Some.kind word
+
+pub returns-in-Some-place_of : goal.returns-in-Some-place_of
+returns-in-Some-place_of c =
+    let names = names_view c.args.self.now in
+    let x = name_at names.defined c.args.place in
+    let text = c.text_at-text.result.now in
+    let defined : lookup names.defined x ≡ Some text = c.requires.known.linked.texts c.args.place c.requires.place ∙ ap (λ t. Some t) (sym c.text_at-text.ensures) in
+    let word : lookup words text ≡ None = cc c.in_ok-kind.ensures in
+    let step = edge c.args.self.now.model names x text c.requires.no_word defined (sym c.if-begins_digit.ensures) in
+    let named : name_at names.defined c.in-Some-place_of.place ≡ text = c.in-Some-place_of.ensures.named in
+    (c.in-Some-place_of.ensures.within, subst IsNoWord (sym named) word, subst (Reaches names.defined x) (sym named) (reaches_edge names.defined x text step))
+
+pub returns-in_ok-given_or_name-in-None : goal.returns-in_ok-given_or_name-in-None
+returns-in_ok-given_or_name-in-None c =
+    let names = names_view c.args.self.now in
+    let x = name_at names.defined c.args.place in
+    let text = c.text_at-text.result.now in
+    let defined : lookup names.defined x ≡ Some text = c.requires.known.linked.texts c.args.place c.requires.place ∙ ap (λ t. Some t) (sym c.text_at-text.ensures) in
+    let word : lookup words text ≡ None = cc c.in_ok-kind.ensures in
+    let new : lookup names.defined text ≡ None = c.in-None.ensures in
+    subst (Becomes c.args.self.now.model names x) (sym c.in_ok-given_or_name-in-None.ensures)
+    (becomes_given c.args.self.now.model names x text c.requires.no_word defined (sym c.if-begins_digit.ensures) word new)

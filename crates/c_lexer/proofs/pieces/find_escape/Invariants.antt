@@ -1,8 +1,0 @@
-use Rattle.std.proofs.Common.{◌≡◌, drop}
-use Rattle.c_model.specs.Words.{lookup}
-use Rattle.c_lexer.specs.Escapes.{escapes}
-use Rattle.c_lexer.proofs.pieces.find_escape.Given as goal
-
--- no row so far has the text
-abbrev pub invariant-loop-row : goal.invariant-loop-row
-invariant-loop-row l = lookup (escapes (drop l.row-index l.table)) l.text ≡ lookup (escapes l.table) l.text

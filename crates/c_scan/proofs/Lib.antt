@@ -1,0 +1,7 @@
+mod Digits
+pub mod Scans
+pub mod Tests
+pub mod Types
+pub mod Fronts
+pub mod Classes
+pub mod Marks

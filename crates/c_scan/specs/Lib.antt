@@ -1,0 +1,5 @@
+pub mod Rows
+pub mod Runs
+pub mod Fronts
+pub mod Escapes
+pub mod Numbers
