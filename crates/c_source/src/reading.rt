@@ -64,21 +64,26 @@ fn tokens_of(alloc: Global, source: &[u8]) -> Result<Tokens, Unread>
 fn tree_of(alloc: Global, tokens: &Tokens) -> Result<Tree, Unread>
     ensures { MatchResult result (λ tree. IsWithin tokens.now × Spells tokens.now tree) (IsCauseBehind tokens.now) }
 {
-    let refusal = match parse(alloc, tokens) {
-        Ok(tree) => return Ok(tree),
-        Err(ParseFault::LeftOut { at }) => Refusal::LeftOut {
-            word: word_at(tokens.as_slice(), at),
-            line: line_at(tokens.as_slice(), at),
-        },
-        Err(ParseFault::TooDeep { at }) => Refusal::TooDeep {
-            line: line_at(tokens.as_slice(), at),
-        },
-        Err(ParseFault::Syntax { at }) => Refusal::Syntax {
-            line: line_at(tokens.as_slice(), at),
-        },
-        Err(ParseFault::NoMemory) => return Err(Unread::NoMemory),
-    };
-    Err(Unread::Refused { refusal })
+    match parse(alloc, tokens) {
+        Ok(tree) => Ok(tree),
+        Err(ParseFault::LeftOut { at }) => Err(Unread::Refused {
+            refusal: Refusal::LeftOut {
+                word: word_at(tokens.as_slice(), at),
+                line: line_at(tokens.as_slice(), at),
+            },
+        }),
+        Err(ParseFault::TooDeep { at }) => Err(Unread::Refused {
+            refusal: Refusal::TooDeep {
+                line: line_at(tokens.as_slice(), at),
+            },
+        }),
+        Err(ParseFault::Syntax { at }) => Err(Unread::Refused {
+            refusal: Refusal::Syntax {
+                line: line_at(tokens.as_slice(), at),
+            },
+        }),
+        Err(ParseFault::NoMemory) => Err(Unread::NoMemory),
+    }
 }
 
 /// The straight program that the bytes spell, or the first cause for which they are refused, in this order: their
