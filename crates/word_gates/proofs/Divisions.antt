@@ -1,5 +1,5 @@
 -- Quotients, digit by digit from the top, and with signs.
-use Rattle.std.proofs.Common.{ℕ, zero, suc, ◌≡◌, ◌≢◌, ◌<◌, ◌≤◌, ◌+◌, ◌-◌, ◌*◌, ◌/◌, ◌^◌, ◌==◌, nat_lt, Bool, true, false, not, ◌&&◌, ◌||◌, List, length, take, drop, get_or, ℤ, pos, neg_ℤ, ◌+ℤ◌, ◌-ℤ◌, ◌*ℤ◌, ◌≤ℤ◌, ◌<ℤ◌, if◌then◌else◌, refl, sym, ap, subst, ◌∙◌, arith, inl, inr, ◌⊎◌, true≢false, drop-cons, length-take}
+use Rattle.std.proofs.Common.{ℕ, zero, suc, ◌≡◌, ◌≢◌, ◌<◌, ◌≤◌, ◌+◌, ◌-◌, ◌*◌, ◌/◌, ◌^◌, ◌==◌, nat_lt, Bool, true, false, not, ◌&&◌, List, length, take, drop, ℤ, pos, neg_ℤ, ◌+ℤ◌, ◌-ℤ◌, ◌*ℤ◌, ◌≤ℤ◌, ◌<ℤ◌, if◌then◌else◌, refl, sym, ap, subst, ◌∙◌, arith, inl, inr, ◌⊎◌, true≢false, length-take}
 use Rattle.std.proofs.Math.Nat.{zero-div}
 use Rattle.std.proofs.lemmas.Int.{ints}
 use Rattle.std.proofs.lemmas.Nat.{div-mul-add}
@@ -10,56 +10,10 @@ use Rattle.kv_shape.specs.Shape.{below_at, InShape}
 use Rattle.kv_shape.proofs.Shapes.{wrap_at-in_shape, range-wrap_at}
 use Rattle.kv_clause.specs.Literals.{is_true, complement_of}
 use Rattle.kv_clause.proofs.Truths.{is_true-complement}
-use Rattle.word_gates.specs.Words.{bit, number, signed_number, word_value}
-use Rattle.word_gates.proofs.Numbers.{number-bound}
-use Rattle.word_gates.proofs.Negations.{below_less}
+use Rattle.word_sums.specs.Words.{bit, number, signed_number, word_value}
+use Rattle.word_sums.proofs.Numbers.{below_less, number-bound}
 use Rattle.word_gates.proofs.Exact.{neg_as, signed_product, wrapped_absolute}
-use Rattle.word_gates.proofs.Moves.{number-split, nonzero, rest_is}
-
--- ---- a word from its top
-
-pub number-drop : (A : ℕ → Bool) (w : List ℕ) (i j k x : ℕ) → i < length w → j ≡ length w - 1 - i → k ≡ length w - i → x ≡ get_or w j x → number A (drop j w) ≡ bit (is_true A x) + 2 * number A (drop k w)
-number-drop A w i j k x h ej ek is =
-    let lt : j < length w = omega arith in
-    let e : suc j ≡ k = omega arith in
-    ap (number A) (drop-cons w j x lt) ∙ (ap (λ z. bit (is_true A z) + 2 * number A (drop (suc j) w)) (sym is) ∙ ap (λ z. bit (is_true A x) + 2 * number A (drop z w)) e)
-
-some_above : (s x : Bool) (d n : ℕ) → n ≡ bit x + 2 * d → s ≡ not (d == 0) → (s || x) ≡ not (n == 0)
-some_above s true d n e f = or_true s ∙ ap not (sym (by n d e))
-  where
-    or_true : (b : Bool) → (b || true) ≡ true
-    or_true true = refl
-    or_true false = refl
-
-    by : (n d : ℕ) → n ≡ 1 + 2 * d → (n == 0) ≡ false
-    by zero d e = absurd (omega arith)
-    by (suc n) d e = nonzero n
-some_above s false zero n e f = or_false s ∙ (f ∙ ap (λ z. not (z == 0)) (sym (by n e)))
-  where
-    or_false : (b : Bool) → (b || false) ≡ b
-    or_false true = refl
-    or_false false = refl
-
-    by : (n : ℕ) → n ≡ 0 + 2 * zero → n ≡ 0
-    by n e = omega arith
-some_above s false (suc d) n e f = or_false s ∙ (f ∙ (ap not (nonzero d) ∙ sym (ap not (by n d e))))
-  where
-    or_false : (b : Bool) → (b || false) ≡ b
-    or_false true = refl
-    or_false false = refl
-
-    by : (n d : ℕ) → n ≡ 0 + 2 * suc d → (n == 0) ≡ false
-    by zero d e = absurd (omega arith)
-    by (suc n) d e = nonzero n
-
-pub number-drop_next : (A : ℕ → Bool) (w : List ℕ) (i x : ℕ) → i < length w → x ≡ get_or w (length w - 1 - i) x → number A (drop (length w - (i + 1)) w) ≡ bit (is_true A x) + 2 * number A (drop (length w - i) w)
-number-drop_next A w i x h is =
-    let e : length w - (i + 1) ≡ length w - 1 - i = omega arith in
-    ap (λ k. number A (drop k w)) e ∙ number-drop A w i (length w - 1 - i) (length w - i) x h refl refl is
-
--- whether a literal is true, one more from the top
-pub any_above : (A : ℕ → Bool) (w : List ℕ) (i x s o : ℕ) → i < length w → x ≡ get_or w (length w - 1 - i) x → is_true A s ≡ not (number A (drop (length w - i) w) == 0) → is_true A o ≡ (is_true A s || is_true A x) → is_true A o ≡ not (number A (drop (length w - (i + 1)) w) == 0)
-any_above A w i x s o h is before step = step ∙ some_above (is_true A s) (is_true A x) (number A (drop (length w - i) w)) (number A (drop (length w - (i + 1)) w)) (number-drop_next A w i x h is) before
+use Rattle.word_sums.proofs.Pieces.{number-split, nonzero, rest_is}
 
 -- ---- one digit of a quotient
 

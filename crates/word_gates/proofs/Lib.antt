@@ -1,11 +1,4 @@
-pub mod Digits
-pub mod Growth
 pub mod Negations
-pub mod Numbers
-pub mod Orders
 pub mod Exact
-pub mod Rows
-pub mod Totals
 pub mod Moves
 pub mod Divisions
-pub mod Signed

@@ -1,64 +1,22 @@
 -- Words moved up and down.
-use Rattle.std.proofs.Common.{ℕ, zero, suc, ◌≡◌, ◌<◌, ◌≤◌, ◌+◌, ◌-◌, ◌*◌, ◌/◌, ◌%◌, ◌^◌, ◌==◌, nat_lt, Bool, true, false, not, ◌&&◌, ◌||◌, List, [], ◌∷◌, ◌++◌, length, take, drop, get_or, ℤ, pos, negsuc, ◌+ℤ◌, ◌-ℤ◌, ◌*ℤ◌, ◌≤ℤ◌, ◌<ℤ◌, IsTrue, ◌↔◌, if◌then◌else◌, refl, sym, ap, subst, ◌∙◌, arith, inl, inr, ◌⊎◌, true≢false, length-take, length-append, length-drop}
+use Rattle.std.proofs.Common.{ℕ, zero, suc, ◌≡◌, ◌<◌, ◌≤◌, ◌+◌, ◌-◌, ◌*◌, ◌/◌, ◌%◌, ◌^◌, ◌==◌, nat_lt, Bool, true, false, not, ◌&&◌, ◌||◌, List, ◌++◌, length, take, drop, get_or, ℤ, pos, negsuc, ◌+ℤ◌, ◌-ℤ◌, ◌*ℤ◌, ◌≤ℤ◌, ◌<ℤ◌, IsTrue, ◌↔◌, if◌then◌else◌, refl, sym, ap, subst, ◌∙◌, arith, inl, inr, ◌⊎◌, true≢false, length-take, length-append, length-drop}
 use Rattle.std.proofs.Math.ListN.{replicate}
 use Rattle.std.proofs.Math.Nat.{div-one}
-use Rattle.std.proofs.Math.Seq.{take-length}
 use Rattle.std.proofs.lemmas.Int.{ints}
 use Rattle.std.proofs.lemmas.Nat.{pow_pos, pow-add, mul-mod_first, mod-mul-add, div-mul-add, div-add-mod', shr_le, pow_below}
-use Rattle.std.proofs.lemmas.List.{length-replicate, take-append-drop}
-use Rattle.std.proofs.lemmas.Bool.{cases_lt, lt-ltb, le-ltb, ne_eqb}
+use Rattle.std.proofs.lemmas.List.{length-replicate}
+use Rattle.std.proofs.lemmas.Bool.{cases_lt, lt-ltb, le-ltb}
 use Rattle.kv_num.specs.Shift.{left_of, right_of}
 use Rattle.kv_num.proofs.Powers.{right_of-right_of}
 use Rattle.kv_shape.specs.Shape.{below_at, InShape, wrap_at}
 use Rattle.kv_shape.proofs.Shapes.{wrap_at-congruent, wrap_at-mul_left, wrap_at_unique, range-wrap_at}
-use Rattle.kv_clause.specs.Literals.{is_true}
-use Rattle.word_gates.specs.Words.{bit, number, word_value, continued_value}
-use Rattle.word_gates.proofs.Numbers.{number-bound, pow_next, word_value-unsigned, word_value-signed, number_top, half, full, low_bound}
-use Rattle.word_gates.proofs.Negations.{below_less}
-
--- ---- words in two parts
-
-module _ (A : ℕ → Bool) where
-  pub number-append : (xs ys : List ℕ) → number A (xs ++ ys) ≡ number A xs + 2 ^ length xs * number A ys
-  number-append [] ys = omega arith
-  number-append (x ∷ xs) ys =
-      let e : 2 ^ suc (length xs) ≡ 2 * 2 ^ length xs = ap (λ k. 2 ^ k) (by (length xs)) ∙ pow_next (length xs) in
-      let f : 2 ^ suc (length xs) * number A ys ≡ 2 * 2 ^ length xs * number A ys = ap (λ z. z * number A ys) e in
-      let h = number-append xs ys in
-      omega arith
-    where
-      by : (n : ℕ) → suc n ≡ n + 1
-      by n = omega arith
-
-  -- a word by its lowest bits and the rest
-  pub number-split : (k : ℕ) (w : List ℕ) → k ≤ length w → number A w ≡ number A (take k w) + 2 ^ k * number A (drop k w)
-  number-split k w h =
-      let l : length (take k w) ≡ k = omega (arith, length-take k w) in
-      ap (number A) (sym (take-append-drop k w)) ∙ (number-append (take k w) (drop k w) ∙ ap (λ z. number A (take k w) + 2 ^ z * number A (drop k w)) l)
-
-  pub number-copies : (n l : ℕ) → number A (replicate n l) + bit (is_true A l) ≡ 2 ^ n * bit (is_true A l)
-  number-copies zero l = omega arith
-  number-copies (suc n) l =
-      let e : 2 ^ suc n ≡ 2 * 2 ^ n = ap (λ k. 2 ^ k) (by n) ∙ pow_next n in
-      let f : 2 ^ suc n * bit (is_true A l) ≡ 2 * 2 ^ n * bit (is_true A l) = ap (λ z. z * bit (is_true A l)) e in
-      let h = number-copies n l in
-      omega arith
-    where
-      by : (n : ℕ) → suc n ≡ n + 1
-      by n = omega arith
-
-  -- the bits above a bound of the number are not set
-  pub number-short : (k s : ℕ) (w : List ℕ) → k ≤ length w → number A w < s → s ≤ 2 ^ k → number A (take k w) ≡ number A w
-  number-short k s w h b e = by (number A (take k w)) (2 ^ k) (number A (drop k w)) (number A w) s (number-split k w h) b e
-    where
-      by : (t p d n s : ℕ) → n ≡ t + p * d → n < s → s ≤ p → t ≡ n
-      by t p zero n s e h k = omega arith
-      by t p (suc d) n s e h k = absurd (omega arith)
+use Rattle.kv_clause.specs.Literals.{is_true, complement_of}
+use Rattle.kv_clause.proofs.Truths.{is_true-complement}
+use Rattle.word_sums.specs.Words.{bit, number, word_value, continued_value}
+use Rattle.word_sums.proofs.Numbers.{below_less, number-bound, pow_next, word_value-unsigned, word_value-signed, number_top, half, full, low_bound}
+use Rattle.word_sums.proofs.Pieces.{number-append, number-split, number-copies, nonzero, top_same}
 
 -- ---- up
-
-pub nonzero : (n : ℕ) → (suc n == 0) ≡ false
-nonzero n = ne_eqb (suc n) 0 (λ (e : suc n ≡ 0). omega arith)
 
 module _ (x s q y : ℕ) (whole : x + s * q ≡ y) (small : x < s) where
   pub low_part : x ≡ y % s
@@ -250,11 +208,6 @@ signed_left false false tr la lr p m s b n r eb es ha hr hm en er el em =
     by true y lr p b s eb es h e = (λ f. absurd (true≢false (sym f)), λ z w. absurd (omega (arith, ints, w.1)))
     by false y lr p b s eb es h e = (λ f. (omega (arith, ints), (omega (arith, ints), omega (arith, ints))), λ z w. refl)
 
-pub top_same : (a : List ℕ) (n x y : ℕ) → n < length a → get_or a n x ≡ get_or a n y
-top_same [] n x y h = absurd (omega arith)
-top_same (l ∷ ls) zero x y h = refl
-top_same (l ∷ ls) (suc n) x y h = top_same ls n x y (omega arith)
-
 module _ (A : ℕ → Bool) (a r : List ℕ) (n z d : ℕ) (l : Bool) (la : length a ≡ n + 1) (lr : length r ≡ n + 1) (rz : z ≡ get_or r n z)
     (moved : number A r ≡ number A a * 2 ^ d % 2 ^ length a) (lost : l ≡ not (nat_lt (number A a * 2 ^ d) (2 ^ length a))) where
   ax : get_or a n 0 ≡ get_or a n (get_or a n 0)
@@ -386,9 +339,13 @@ bits_least k w i h e l = by (cases_lt i k)
 pub bits_within : (k w : ℕ) → 0 < w → 2 ^ k ≤ w - 1 → k + 1 ≤ w
 bits_within k w h e = let b = below_power k in omega arith
 
--- the rest of a word from a place on, as it is read
-pub rest_is : (k : ℕ) (w : List ℕ) → k ≤ length w → take (length w - k) (drop k w) ≡ drop k w
-rest_is k w h = ap (λ n. take n (drop k w)) (sym (length-drop k w)) ∙ take-length (drop k w)
+-- a choice that is turned over
+pub swapped_choice : (A : ℕ → Bool) (t n x y : ℕ) → n ≡ complement_of t → (if is_true A n then x else y) ≡ (if is_true A t then y else x)
+swapped_choice A t n x y e = ap (λ (b : Bool). if b then x else y) (ap (is_true A) e ∙ is_true-complement A t) ∙ by (is_true A t)
+  where
+    by : (b : Bool) → (if not b then x else y) ≡ (if b then y else x)
+    by true = refl
+    by false = refl
 
 -- the choice between a word moved down and the word
 pub lowered_choice : (A : ℕ → Bool) (t : Bool) (f p : ℕ) (word moved new : List ℕ) → length new ≡ length word → length moved ≡ length word → number A new ≡ (if t then number A moved else number A word) → continued_value A f moved ≡ right_of (continued_value A f word) p → continued_value A f new ≡ (if t then right_of (continued_value A f word) p else continued_value A f word)

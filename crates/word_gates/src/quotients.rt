@@ -3,27 +3,24 @@ ghost use Rattle.kv_num.specs.Quotient.{quotient_of, remainder_of};
 ghost use Rattle.kv_shape.specs.Shape.{InShape, wrap_at};
 ghost use Rattle.kv_clause.specs.Literals.{is_true};
 ghost use Rattle.gate_core.specs.Table.{Agrees, IsLitOf, Grows};
-ghost use Rattle.word_gates.specs.Words.{bit, number, word_value, IsWordOf};
+ghost use Rattle.word_sums.specs.Words.{bit, number, word_value, IsWordOf};
 
-use crate::compares::select;
-use crate::parts::any;
 use crate::signs::{absolute_value, negated_where, with_sign};
-use crate::sums::{add_carried, complements};
-use crate::{Word, WordNum};
 use gate_core::Gates;
 use kv_base::{NoMemory, Sequence};
 use kv_clause::Lit;
 use std::alloc::Global;
+use word_sums::{Word, WordNum, add_carried, any, complements, select};
 
 /// A quotient and what it leaves, without signs.
-#[derive(Debug, Drop)]
+#[derive(Drop)]
 struct Division {
     quotient: Word,
     remainder: Word,
 }
 
 /// Whether a divisor was taken away, and what is left.
-#[derive(Debug, Drop)]
+#[derive(Drop)]
 struct Reduced {
     digit: Lit,
     rest: Word,

@@ -3,20 +3,17 @@ ghost use Rattle.kv_num.specs.Shift.{left_of, right_of};
 ghost use Rattle.kv_shape.specs.Shape.{InShape, wrap_at};
 ghost use Rattle.kv_clause.specs.Literals.{is_true};
 ghost use Rattle.gate_core.specs.Table.{Agrees, IsLitOf, Grows};
-ghost use Rattle.word_gates.specs.Words.{number, word_value, continued_value, IsWordOf};
+ghost use Rattle.word_sums.specs.Words.{number, word_value, continued_value, IsWordOf};
 
-use crate::bits::or;
-use crate::compares::select;
-use crate::parts::any;
 use crate::signs::sign;
-use crate::{Word, WordNum};
 use gate_core::Gates;
 use kv_base::{NoMemory, Sequence};
 use kv_clause::Lit;
 use std::alloc::Global;
+use word_sums::{Word, WordNum, above, any, or, select};
 
 /// A word, and whether a bit was lost past its top.
-#[derive(Debug, Drop)]
+#[derive(Drop)]
 struct Raised {
     word: Word,
     lost: Lit,
@@ -137,7 +134,8 @@ fn raise(
     Ok(Raised { word, lost })
 }
 
-/// Moves a word up by some places where a literal is true.
+/// Moves a word up by some places where a literal is true. The choice is turned over, so that each bit that becomes
+/// known makes one gate.
 fn raise_where(
     alloc: Global,
     gates: &mut Gates,
@@ -164,7 +162,7 @@ fn raise_where(
     let past = any(gates, &bits[kept..])?;
     let falls = gates.and(test, past)?;
     let lost = or(gates, lost, falls)?;
-    let word = select(alloc, gates, test, &moved, word)?;
+    let word = select(alloc, gates, test.complement(), word, &moved)?;
     Ok(Raised { word, lost })
 }
 
@@ -215,20 +213,8 @@ fn lower_where(
 {
     let bits = word.as_slice();
     let moved = below(alloc, &bits[places..], fill, places)?;
-    let chosen = select(alloc, gates, test, &moved, word)?;
+    let chosen = select(alloc, gates, test.complement(), word, &moved)?;
     Ok(chosen)
-}
-
-/// A word above some copies of a literal.
-pub(crate) fn above(alloc: Global, fill: Lit, copies: usize, word: &[Lit]) -> Result<Word, NoMemory>
-    ensures { IfOk result (λ w. w ≡ replicate copies fill ++ word.now) }
-{
-    let mut whole = Sequence::new(alloc);
-    for _i in 0..copies {
-        whole.push(fill)?;
-    }
-    whole.extend_from_slice(word)?;
-    Ok(whole)
 }
 
 /// A word below some copies of a literal.

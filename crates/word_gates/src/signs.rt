@@ -1,21 +1,28 @@
 ghost use Rattle.std.specs.Prelude.{◌≡◌, ◌<◌, ◌+◌, ◌-◌, ◌*◌, ◌^◌, ◌==◌, ◌&&◌, ◌||◌, ◌↔◌, IsTrue, not, ℕ, Bool, true, false, pos, ◌-ℤ◌, length, if◌then◌else◌, IfOk};
+ghost use Rattle.kv_num.specs.Bits.{differ};
 ghost use Rattle.kv_shape.specs.Shape.{InShape, wrap_at};
 ghost use Rattle.kv_clause.specs.Literals.{is_true};
 ghost use Rattle.gate_core.specs.Table.{Agrees, IsLitOf, Grows};
-ghost use Rattle.word_gates.specs.Words.{bit, number, signed_number, word_value, IsWordOf};
+ghost use Rattle.word_sums.specs.Words.{bit, number, signed_number, word_value, IsWordOf};
 
-use crate::bits::or;
-use crate::{Word, WordNum};
 use gate_core::Gates;
 use kv_base::{NoMemory, Sequence};
 use kv_clause::Lit;
 use std::alloc::Global;
+use word_sums::{Word, WordNum, or};
 
 /// A number by its sign and its absolute value.
-#[derive(Debug, Drop)]
+#[derive(Drop)]
 pub(crate) struct Magnitude {
     pub negative: Lit,
     pub word: Word,
+}
+
+/// The lower digits of a negated word, and whether a digit of the word itself is set so far.
+#[derive(Drop)]
+struct Negated {
+    word: Word,
+    set: Lit,
 }
 
 /// The word of the number below 2 to its width that makes nothing with this one, modulo that, where the test is true,
@@ -28,21 +35,59 @@ pub(crate) fn negated_where(
 ) -> Result<Word, NoMemory>
     requires word { IsWordOf gates.old word.now }
     requires test { IsLitOf gates.old test }
+    requires some { 0 < length word.now }
     ensures len { IfOk result (λ w. length w ≡ length word.now) }
     ensures within { IfOk result (λ w. IsWordOf gates.new w) }
     ensures value { IfOk result (λ w. (A : ℕ → Bool) → Agrees A gates.new → (if is_true A test then number A w + number A word.now else number A w) ≡ (if is_true A test then 2 ^ length word.now * bit (not (number A word.now == 0)) else number A word.now)) }
     ensures grows { Grows gates.old gates.new }
 {
+    let top = word.len() - 1;
+    let low = negated_digits(alloc, gates, &word[..top], test)?;
+    let last = negated_digit(gates, test, low.set, word[top])?;
+    let mut negated = low.word;
+    negated.push(last)?;
+    Ok(negated)
+}
+
+/// The digits of a word, negated where the test is true.
+fn negated_digits(
+    alloc: Global,
+    gates: &mut Gates,
+    word: &[Lit],
+    test: Lit,
+) -> Result<Negated, NoMemory>
+    requires word { IsWordOf gates.old word.now }
+    requires test { IsLitOf gates.old test }
+    ensures len { IfOk result (λ d. length d.word ≡ length word.now) }
+    ensures within { IfOk result (λ d. IsWordOf gates.new d.word) }
+    ensures set { IfOk result (λ d. IsLitOf gates.new d.set) }
+    ensures some { IfOk result (λ d. (A : ℕ → Bool) → Agrees A gates.new → is_true A d.set ≡ not (number A word.now == 0)) }
+    ensures value { IfOk result (λ d. (A : ℕ → Bool) → Agrees A gates.new → (if is_true A test then number A d.word + number A word.now else number A d.word) ≡ (if is_true A test then 2 ^ length word.now * bit (not (number A word.now == 0)) else number A word.now)) }
+    ensures grows { Grows gates.old gates.new }
+{
     let mut negated = Sequence::new(alloc);
     let mut set = gates.constant(false)?;
     for x in word {
-        let turn = gates.and(test, set)?;
-        let digit = gates.xor(turn, *x)?;
+        let digit = negated_digit(gates, test, set, *x)?;
         let more = or(gates, set, *x)?;
         negated.push(digit)?;
         set = more;
     }
-    Ok(negated)
+    Ok(Negated { word: negated, set })
+}
+
+/// A digit, turned over where the test is true and a lower digit is set.
+fn negated_digit(gates: &mut Gates, test: Lit, set: Lit, digit: Lit) -> Result<Lit, NoMemory>
+    requires test { IsLitOf gates.old test }
+    requires set { IsLitOf gates.old set }
+    requires digit { IsLitOf gates.old digit }
+    ensures within { IfOk result (IsLitOf gates.new) }
+    ensures value { IfOk result (λ l. (A : ℕ → Bool) → Agrees A gates.new → is_true A l ≡ differ (is_true A test && is_true A set) (is_true A digit)) }
+    ensures grows { Grows gates.old gates.new }
+{
+    let turn = gates.and(test, set)?;
+    let turned = gates.xor(turn, digit)?;
+    Ok(turned)
 }
 
 /// A literal that is true where the number of a word is negative.

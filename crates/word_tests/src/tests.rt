@@ -127,13 +127,13 @@ fn orders_of_bytes(rt: HostRuntime) -> Result<(), Fail> {
 
 /// How many gates the circuits of words with a sign have at 8, 32 and 64 bits.
 const COUNTS: [(Operation, usize, usize, usize); 8] = [
-    (Operation::Add, 38, 158, 318),
-    (Operation::Sub, 39, 159, 319),
-    (Operation::Mul, 346, 5_986, 24_258),
-    (Operation::Div, 372, 4_596, 17_396),
-    (Operation::ShiftLeft, 75, 485, 1_158),
+    (Operation::Add, 36, 156, 316),
+    (Operation::Sub, 36, 156, 316),
+    (Operation::Mul, 338, 5_954, 24_194),
+    (Operation::Div, 360, 4_560, 17_328),
+    (Operation::ShiftLeft, 68, 454, 1_095),
     (Operation::ShiftRight, 63, 465, 1_134),
-    (Operation::Less, 30, 126, 254),
+    (Operation::Less, 29, 125, 253),
     (Operation::Equal, 15, 63, 127),
 ];
 

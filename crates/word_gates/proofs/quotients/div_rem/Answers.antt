@@ -2,9 +2,9 @@ use Rattle.std.proofs.Common.{arith, ◌≡◌, length, ap, sym, subst, ◌∙�
 use Rattle.kv_num.specs.Bits.{differ}
 use Rattle.kv_shape.specs.Shape.{wrap_at, InShape}
 use Rattle.kv_clause.specs.Literals.{is_true}
-use Rattle.word_gates.specs.Words.{number, signed_number, word_value}
-use Rattle.word_gates.proofs.Growth.{Grows-trans}
-use Rattle.word_gates.proofs.Totals.{same_shape_at}
+use Rattle.word_sums.specs.Words.{number, signed_number, word_value}
+use Rattle.word_sums.proofs.Growth.{Grows-trans}
+use Rattle.word_sums.proofs.Totals.{same_shape_at}
 use Rattle.word_gates.proofs.Divisions.{signed_quotient_is, signed_remainder_is, remainder_shape, remainder_value, shape_of_word}
 use Rattle.word_gates.proofs.quotients.div_rem.Goals as goal
 
@@ -90,3 +90,15 @@ returns-clause-remainder c = λ A h some.
     let shape = remainder_shape va vb sx sy neg nx ny q r ea eb en whole small some (length c.args.a.now) s c.requires.some (shape_of_word A s c.args.a.now) in
     remainder_value A s sx left c.in_ok-remainder.remainder c.in_ok-remainder.ensures.len (c.in_ok-remainder.ensures.value A h) (subst (λ k. InShape k s (signed_number sx r)) len shape)
     ∙ signed_remainder_is va vb sx sy neg nx ny q r ea eb en whole small some
+
+pub returns-in_err-x-clause-grows : goal.returns-in_err-x-clause-grows
+returns-in_err-x-clause-grows c = c.in_err-x.ensures.grows
+
+pub returns-in_err-y-clause-grows : goal.returns-in_err-y-clause-grows
+returns-in_err-y-clause-grows c = Grows-trans _ _ _ c.in_ok-x.ensures.grows c.in_err-y.ensures.grows
+
+pub returns-in_err-exact-clause-grows : goal.returns-in_err-exact-clause-grows
+returns-in_err-exact-clause-grows c = Grows-trans _ _ _ c.in_ok-x.ensures.grows (Grows-trans _ _ _ c.in_ok-y.ensures.grows c.in_err-exact.ensures.grows)
+
+pub negated_where-requires-clause-some : goal.negated_where-requires-clause-some
+negated_where-requires-clause-some c = omega (arith, ap length c.as_slice-left.ensures, c.in_ok-exact.ensures.remainder_len, ap length c.as_slice-3.ensures, c.in_ok-x.ensures.len, ap length c.as_slice.ensures)

@@ -1,9 +1,10 @@
 use Rattle.std.proofs.Common.{arith, ◌+◌, ◌-◌, ◌∷◌, length, drop, ap, ◌∙◌}
 use Rattle.kv_clause.specs.Literals.{is_true}
-use Rattle.word_gates.specs.Words.{bit, number}
-use Rattle.word_gates.proofs.Growth.{Grows-trans, word_grown, word_below}
-use Rattle.word_gates.proofs.Numbers.{bit-le}
-use Rattle.word_gates.proofs.Divisions.{number-drop_next, quotient_more, remainder_more}
+use Rattle.word_sums.specs.Words.{bit, number}
+use Rattle.word_sums.proofs.Growth.{Grows-trans, word_grown, word_below}
+use Rattle.word_sums.proofs.Numbers.{bit-le}
+use Rattle.word_sums.proofs.Pieces.{number-drop_next}
+use Rattle.word_gates.proofs.Divisions.{quotient_more, remainder_more}
 use Rattle.word_gates.proofs.quotients.divide.Goals as goal
 
 pub returns-in_err-whole-clause-grows : goal.returns-in_err-whole-clause-grows
@@ -33,3 +34,9 @@ loop-i-preserved c =
           let h0 = c.in_ok-reduced.ensures.grows.kept A h in
           remainder_more (number A b) (number A c.loop-i.remainder) (bit (is_true A x)) (number A c.in_ok-whole.whole) (number A rest) (is_true A digit) (bit-le (is_true A x)) (c.loop-i.invariant.small A h0 some) (ap (number A) ew) (c.in_ok-reduced.ensures.taken A h) (c.in_ok-reduced.ensures.value A h);
     }
+
+pub returns-in_err-reduced-clause-grows : goal.returns-in_err-reduced-clause-grows
+returns-in_err-reduced-clause-grows c = Grows-trans _ _ _ c.loop-i.invariant.grows c.in_err-reduced.ensures.grows
+
+pub returns-in_err-digits-clause-grows : goal.returns-in_err-digits-clause-grows
+returns-in_err-digits-clause-grows c = Grows-trans _ _ _ c.loop-i.invariant.grows c.in_ok-reduced.ensures.grows

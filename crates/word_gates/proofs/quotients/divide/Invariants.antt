@@ -1,6 +1,6 @@
 use Rattle.std.proofs.Common.{◌≡◌, ◌<◌, ◌+◌, ◌-◌, ◌*◌, ℕ, Bool, length, drop}
 use Rattle.gate_core.specs.Table.{Agrees, Grows}
-use Rattle.word_gates.specs.Words.{number, IsWordOf}
+use Rattle.word_sums.specs.Words.{number, IsWordOf}
 use Rattle.word_gates.proofs.quotients.divide.Given as goal
 
 abbrev pub invariant-loop-i : goal.invariant-loop-i

@@ -1,4 +1,4 @@
-use Rattle.word_gates.proofs.Growth.{Grows-trans}
+use Rattle.word_sums.proofs.Growth.{Grows-trans}
 use Rattle.word_gates.proofs.Divisions.{reduced_taken, reduced_value}
 use Rattle.word_gates.proofs.quotients.reduce.Goals as goal
 
@@ -22,3 +22,18 @@ returns-clause-value c = λ A h.
 
 pub returns-clause-grows : goal.returns-clause-grows
 returns-clause-grows c = Grows-trans _ _ _ c.in_ok-always.ensures.grows (Grows-trans _ _ _ c.in_ok-difference.ensures.grows (Grows-trans _ _ _ c.in_ok-past.ensures.grows (Grows-trans _ _ _ c.in_ok-digit.ensures.grows c.in_ok-rest.ensures.grows)))
+
+pub returns-in_err-always-clause-grows : goal.returns-in_err-always-clause-grows
+returns-in_err-always-clause-grows c = c.in_err-always.ensures.grows
+
+pub returns-in_err-difference-clause-grows : goal.returns-in_err-difference-clause-grows
+returns-in_err-difference-clause-grows c = Grows-trans _ _ _ c.in_ok-always.ensures.grows c.in_err-difference.ensures.grows
+
+pub returns-in_err-past-clause-grows : goal.returns-in_err-past-clause-grows
+returns-in_err-past-clause-grows c = Grows-trans _ _ _ c.in_ok-always.ensures.grows (Grows-trans _ _ _ c.in_ok-difference.ensures.grows c.in_err-past.ensures.grows)
+
+pub returns-in_err-digit-clause-grows : goal.returns-in_err-digit-clause-grows
+returns-in_err-digit-clause-grows c = Grows-trans _ _ _ c.in_ok-always.ensures.grows (Grows-trans _ _ _ c.in_ok-difference.ensures.grows (Grows-trans _ _ _ c.in_ok-past.ensures.grows c.in_err-digit.ensures.grows))
+
+pub returns-in_err-rest-clause-grows : goal.returns-in_err-rest-clause-grows
+returns-in_err-rest-clause-grows c = Grows-trans _ _ _ c.in_ok-always.ensures.grows (Grows-trans _ _ _ c.in_ok-difference.ensures.grows (Grows-trans _ _ _ c.in_ok-past.ensures.grows (Grows-trans _ _ _ c.in_ok-digit.ensures.grows c.in_err-rest.ensures.grows)))

@@ -1,9 +1,9 @@
 use Rattle.std.proofs.Common.{arith, ◌+◌, ◌<◌, take, ◌∙◌}
 use Rattle.std.proofs.lemmas.Nat.{one_shl}
 use Rattle.kv_clause.specs.Literals.{is_true}
-use Rattle.word_gates.specs.Words.{number, continued_value}
-use Rattle.word_gates.proofs.Growth.{Grows-trans}
-use Rattle.word_gates.proofs.Numbers.{number-take}
+use Rattle.word_sums.specs.Words.{number, continued_value}
+use Rattle.word_sums.proofs.Growth.{Grows-trans}
+use Rattle.word_sums.proofs.Numbers.{number-take}
 use Rattle.word_gates.proofs.Moves.{lowered_more}
 use Rattle.word_gates.proofs.shifts.lower.Goals as goal
 
@@ -22,3 +22,6 @@ loop-i-preserved c =
           lowered_more (is_true A c.index-distance-i.result) (number A (take i ds)) (number A (take (i + 1) ds)) i _ (continued_value A c.args.fill c.args.bits.now) (continued_value A c.args.fill c.loop-i.word) (continued_value A c.args.fill c.in_ok-lowered.lowered) e (one_shl i 64 lt)
           (c.loop-i.invariant.value A h0) (c.in_ok-lowered.ensures.value A h);
     }
+
+pub returns-in_err-lowered-clause-grows : goal.returns-in_err-lowered-clause-grows
+returns-in_err-lowered-clause-grows c = Grows-trans _ _ _ c.loop-i.invariant.grows c.in_err-lowered.ensures.grows

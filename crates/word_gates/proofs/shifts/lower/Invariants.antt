@@ -1,7 +1,7 @@
 use Rattle.std.proofs.Common.{◌≡◌, ℕ, Bool, length, take}
 use Rattle.kv_num.specs.Shift.{right_of}
 use Rattle.gate_core.specs.Table.{Agrees, Grows}
-use Rattle.word_gates.specs.Words.{number, continued_value, IsWordOf}
+use Rattle.word_sums.specs.Words.{number, continued_value, IsWordOf}
 use Rattle.word_gates.proofs.shifts.lower.Given as goal
 
 abbrev pub invariant-loop-i : goal.invariant-loop-i

@@ -1,9 +1,10 @@
-use Rattle.std.proofs.Common.{arith, ◌<◌, ◌+◌, ◌^◌, length, take, ap, subst, sym, ◌∙◌}
+use Rattle.std.proofs.Common.{arith, ◌<◌, ◌+◌, ◌*◌, ◌%◌, ◌^◌, nat_lt, not, length, take, ap, subst, sym, ◌∙◌}
 use Rattle.std.proofs.lemmas.Nat.{one_shl, pow_pos}
+use Rattle.std.proofs.lemmas.List.{take_all}
 use Rattle.kv_clause.specs.Literals.{is_true}
-use Rattle.word_gates.specs.Words.{number, IsWordOf}
-use Rattle.word_gates.proofs.Growth.{Grows-trans, word_grown}
-use Rattle.word_gates.proofs.Numbers.{number-take}
+use Rattle.word_sums.specs.Words.{number, IsWordOf}
+use Rattle.word_sums.proofs.Growth.{Grows-trans, word_grown, word_literal}
+use Rattle.word_sums.proofs.Numbers.{number-take}
 use Rattle.word_gates.proofs.Moves.{raised_none, lost_none, raised_more, lost_more}
 use Rattle.word_gates.proofs.shifts.raise.Goals as goal
 
@@ -43,3 +44,25 @@ loop-i-preserved c =
           lost_more t (number A (take i ds)) (number A (take (i + 1) ds)) i _ (number A c.args.bits.now) (2 ^ n) (number A c.loop-i.word) (is_true A c.loop-i.lost) (is_true A c.in_ok-raised.raised.lost) (pow_pos n) e p (c.loop-i.invariant.value A h0) (c.loop-i.invariant.over A h0)
           (rw len at (c.in_ok-raised.ensures.over A h));
     }
+
+pub returns-in_err-lost-clause-grows : goal.returns-in_err-lost-clause-grows
+returns-in_err-lost-clause-grows c = c.in_err-lost.ensures.grows
+
+pub returns-in_err-raised-clause-grows : goal.returns-in_err-raised-clause-grows
+returns-in_err-raised-clause-grows c = Grows-trans _ _ _ c.loop-i.invariant.grows c.in_err-raised.ensures.grows
+
+pub raise_where-requires-clause-word : goal.raise_where-requires-clause-word
+raise_where-requires-clause-word c = c.loop-i.invariant.word
+
+pub raise_where-requires-clause-test : goal.raise_where-requires-clause-test
+raise_where-requires-clause-test c = word_literal _ _ _ _ _ c.loop-i.invariant.grows c.requires.distance c.loop-i-test.true c.index-distance-i.is
+
+pub returns-clause-value : goal.returns-clause-value
+returns-clause-value c = λ A h.
+    let n = number A c.args.bits.now in
+    c.loop-i.invariant.value A h ∙ ap (λ z. n * 2 ^ number A z % 2 ^ length c.args.bits.now) (take_all c.loop-i.i c.args.distance.now c.loop-i-test.false)
+
+pub returns-clause-over : goal.returns-clause-over
+returns-clause-over c = λ A h.
+    let n = number A c.args.bits.now in
+    c.loop-i.invariant.over A h ∙ ap (λ z. not (nat_lt (n * 2 ^ number A z) (2 ^ length c.args.bits.now))) (take_all c.loop-i.i c.args.distance.now c.loop-i-test.false)

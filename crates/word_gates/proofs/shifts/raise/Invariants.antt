@@ -1,7 +1,7 @@
 use Rattle.std.proofs.Common.{◌≡◌, ◌*◌, ◌%◌, ◌^◌, nat_lt, not, ℕ, Bool, length, take}
 use Rattle.kv_clause.specs.Literals.{is_true}
 use Rattle.gate_core.specs.Table.{Agrees, IsLitOf, Grows}
-use Rattle.word_gates.specs.Words.{number, IsWordOf}
+use Rattle.word_sums.specs.Words.{number, IsWordOf}
 use Rattle.word_gates.proofs.shifts.raise.Given as goal
 
 abbrev pub invariant-loop-i : goal.invariant-loop-i

@@ -1,8 +1,10 @@
+use Rattle.word_sums.proofs.Growth.{Grows-trans}
 use Rattle.std.proofs.Common.{arith, ◌≡◌, ◌+◌, ◌-◌, ◌*◌, ◌%◌, ◌^◌, ◌<◌, ◌≤◌, nat_lt, not, length, take, ap, ◌∙◌}
 use Rattle.kv_clause.specs.Literals.{is_true}
 use Rattle.kv_clause.proofs.Truths.{is_true-complement}
-use Rattle.word_gates.specs.Words.{number}
-use Rattle.word_gates.proofs.Moves.{number-short, left_value, left_fits}
+use Rattle.word_sums.specs.Words.{number}
+use Rattle.word_sums.proofs.Pieces.{number-short}
+use Rattle.word_gates.proofs.Moves.{left_value, left_fits}
 use Rattle.word_gates.proofs.shifts.shift_left.Goals as goal
 
 pub returns-clause-value : goal.returns-clause-value
@@ -43,3 +45,12 @@ returns-clause-fits c = λ A h below.
     let lr : length r ≡ (length bits - 1) + 1 = omega (arith, ap length e, ap length er, c.in_ok-raised.ensures.len) in
     left_fits A c.args.a.now r n c.index-digits-top.result (number A c.args.b.now) (is_true A c.in_ok-raised.raised.lost) la lr c.index-digits-top.is moved lost c.args.signed (is_true A c.complement.result)
     (ap (is_true A) c.complement.ensures ∙ (is_true-complement A c.in_ok-over.over ∙ ap not (c.in_ok-over.ensures.value A h)))
+
+pub returns-in_err-raised-clause-grows : goal.returns-in_err-raised-clause-grows
+returns-in_err-raised-clause-grows c = c.in_err-raised.ensures.grows
+
+pub returns-in_err-over-clause-grows : goal.returns-in_err-over-clause-grows
+returns-in_err-over-clause-grows c = Grows-trans _ _ _ c.in_ok-raised.ensures.grows c.in_err-over.ensures.grows
+
+pub returns-clause-grows : goal.returns-clause-grows
+returns-clause-grows c = Grows-trans _ _ _ c.in_ok-raised.ensures.grows c.in_ok-over.ensures.grows

@@ -1,21 +1,28 @@
-use Rattle.std.proofs.Common.{arith}
-use Rattle.std.proofs.lemmas.Grind.{common_steps}
+use Rattle.std.proofs.Common.{arith, ◌≡◌, ◌+◌, ◌-◌, length}
 use Rattle.kv_clause.specs.Literals.{is_true}
-use Rattle.word_gates.proofs.Growth.{literal_grown, word_grown, word_pushed, Grows-trans}
-use Rattle.word_gates.proofs.Rows.{any_more}
-use Rattle.word_gates.proofs.Negations.{negated_more}
+use Rattle.word_sums.proofs.Growth.{Grows-trans, word_grown, word_pushed}
+use Rattle.word_gates.proofs.Negations.{negated_last}
 use Rattle.word_gates.proofs.signs.negated_where.Goals as goal
 
-pub loop-x-preserved : goal.loop-x-preserved
-loop-x-preserved c =
-    let late = Grows-trans _ _ _ c.in_ok-digit.ensures.grows c.in_ok-more.ensures.grows in
-    let all = Grows-trans _ _ _ c.in_ok-turn.ensures.grows late in
-    record {
-      grows = Grows-trans _ _ _ c.loop-x.invariant.grows all;
-      len = grind (arith, common_steps);
-      within = word_pushed _ _ _ _ c.in_ok-push.ensures.ok (word_grown _ _ _ all c.loop-x.invariant.within) (literal_grown _ _ _ c.in_ok-more.ensures.grows c.in_ok-digit.ensures.within);
-      set = c.in_ok-more.ensures.within;
-      some = λ A h. any_more A c.loop-x.x-index c.args.word.now c.x-item.result c.loop-x.set c.in_ok-more.more c.loop-x-test.true c.x-item.is (c.loop-x.invariant.some A (all.kept A h)) (c.in_ok-more.ensures.value A h);
-      value = λ A h. negated_more A c.loop-x.x-index (is_true A c.args.test) c.args.word.now c.loop-x.negated c.push.new.self c.x-item.result c.loop-x.set c.in_ok-turn.turn c.in_ok-digit.digit c.in_ok-more.more
-          c.loop-x.invariant.len c.loop-x-test.true c.in_ok-push.ensures.ok c.x-item.is (c.loop-x.invariant.some A (all.kept A h)) (c.in_ok-turn.ensures.value A (late.kept A h)) (c.in_ok-digit.ensures.value A (c.in_ok-more.ensures.grows.kept A h)) (c.in_ok-more.ensures.value A h) (c.loop-x.invariant.value A (all.kept A h));
-    }
+pub returns-in_err-low-clause-grows : goal.returns-in_err-low-clause-grows
+returns-in_err-low-clause-grows c = c.in_err-low.ensures.grows
+
+pub returns-in_err-last-clause-grows : goal.returns-in_err-last-clause-grows
+returns-in_err-last-clause-grows c = Grows-trans _ _ _ c.in_ok-low.ensures.grows c.in_err-last.ensures.grows
+
+pub returns-in_err-push-clause-grows : goal.returns-in_err-push-clause-grows
+returns-in_err-push-clause-grows c = Grows-trans _ _ _ c.in_ok-low.ensures.grows c.in_ok-last.ensures.grows
+
+pub returns-clause-grows : goal.returns-clause-grows
+returns-clause-grows c = Grows-trans _ _ _ c.in_ok-low.ensures.grows c.in_ok-last.ensures.grows
+
+pub returns-clause-within : goal.returns-clause-within
+returns-clause-within c = word_pushed _ _ _ _ c.in_ok-push.ensures.ok (word_grown _ _ _ c.in_ok-last.ensures.grows c.in_ok-low.ensures.within) c.in_ok-last.ensures.within
+
+pub returns-clause-value : goal.returns-clause-value
+returns-clause-value c = λ A h.
+    let h1 = c.in_ok-last.ensures.grows.kept A h in
+    let word = c.args.word.now in
+    let len : length c.args.word.now ≡ (length c.args.word.now - 1) + 1 = omega arith in
+    negated_last A (is_true A c.args.test) word c.in_ok-low.low.word c.push.new.self (length word - 1) c.index-word-top.result c.in_ok-low.low.set c.in_ok-last.last len c.in_ok-low.ensures.len c.in_ok-push.ensures.ok c.index-word-top.is
+    (c.in_ok-low.ensures.some A h1) (c.in_ok-last.ensures.value A h) (c.in_ok-low.ensures.value A h1)

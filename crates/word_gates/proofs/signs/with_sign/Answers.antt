@@ -1,3 +1,4 @@
+use Rattle.word_sums.proofs.Growth.{Grows-trans}
 use Rattle.std.proofs.Common.{arith, ◌≡◌, ◌+◌, ◌-◌, length, ap, sym}
 use Rattle.kv_clause.specs.Literals.{is_true}
 use Rattle.word_gates.proofs.Exact.{wrapped_absolute, absolute_fits}
@@ -16,5 +17,14 @@ returns-clause-fits c = λ A h plain.
     let ll : length low ≡ (length low - 1) + 1 = omega arith in
     let lv : length bits ≡ (length low - 1) + 1 = omega (arith, ap length c.as_slice-bits.ensures, c.in_ok-value.ensures.len) in
     let r = c.in_ok-value.ensures.value A h1 in
-    absolute_fits A low bits (length low - 1) c.index-absolute-top.result c.index-bits-top.result (is_true A c.args.negative) c.args.signed (is_true A c.in_ok-fits.fits) ll lv c.index-absolute-top.is c.index-bits-top.is
-    (rw (sym c.as_slice-bits.ensures) at r) plain (c.in_ok-fits.ensures.value A h)
+    absolute_fits A low bits (length low - 1) c.index-absolute-top.result c.index-bits-top.result (is_true A c.args.negative) ll lv c.index-absolute-top.is c.index-bits-top.is
+    (rw (sym c.as_slice-bits.ensures) at r) c.args.signed (is_true A c.in_ok-fits.fits) plain (c.in_ok-fits.ensures.value A h)
+
+pub returns-in_err-value-clause-grows : goal.returns-in_err-value-clause-grows
+returns-in_err-value-clause-grows c = c.in_err-value.ensures.grows
+
+pub returns-in_err-fits-clause-grows : goal.returns-in_err-fits-clause-grows
+returns-in_err-fits-clause-grows c = Grows-trans _ _ _ c.in_ok-value.ensures.grows c.in_err-fits.ensures.grows
+
+pub returns-clause-grows : goal.returns-clause-grows
+returns-clause-grows c = Grows-trans _ _ _ c.in_ok-value.ensures.grows c.in_ok-fits.ensures.grows

@@ -1,6 +1,0 @@
-use Rattle.std.proofs.Common.{◌≡◌}
-use Rattle.std.proofs.Math.ListN.{replicate}
-use Rattle.word_gates.proofs.shifts.above.Given as goal
-
-abbrev pub invariant-loop-i : goal.invariant-loop-i
-invariant-loop-i l = l.whole ≡ replicate l._i l.fill

@@ -1,0 +1,6 @@
+pub mod Digits
+pub mod Growth
+pub mod Numbers
+pub mod Pieces
+pub mod Orders
+pub mod Totals
