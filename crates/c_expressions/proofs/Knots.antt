@@ -7,10 +7,8 @@ use Rattle.c_grammar.specs.Marks.{mark_at}
 use Rattle.c_grammar.specs.Reader.{Refuses}
 use Rattle.c_grammar.specs.ReadTypes.{all_specifiers, perhaps_with}
 use Rattle.c_grammar.specs.Readers.{read, specifiers, perhaps, struct_with, enum_with}
-use Rattle.c_expressions.specs.Reads.{operand}
-
-one_more : (n : ℕ) → 0 < n → n ≡ suc (n - 1)
-one_more n h = omega arith
+use Rattle.c_operands.specs.Operands.{operand}
+use Rattle.c_marks.proofs.Lists.{one_more}
 
 pub read_none : (kinds : List TokenKind) (n least : ℕ) (p : Place) → n ≡ 0 → read kinds n least p ≡ Refuses
 unfolding read

@@ -1,14 +1,1 @@
 pub mod Knots
-pub mod Gathered
-pub mod Bracketed
-pub mod Skipped
-pub mod Arrays
-pub mod Unnamed
-pub mod Qualifies
-pub mod Suffixed
-pub mod Single
-pub mod ParameterSteps
-pub mod DeclaratorSteps
-pub mod Listed
-pub mod SpecifierSteps
-pub mod SameMark

@@ -1,61 +1,21 @@
-//! The rules of the grammar take what reads expressions, specifiers and declarators as parameters, so that each rule is
-//! proved by itself.
+//! Each rule of the grammar takes what reads its parts as parameters; here the rules reach one another.
 
-ghost use Rattle.std.specs.Prelude.{◌≤◌};
 ghost use Rattle.c_tree.specs.SpellsText.{kinds_of};
 ghost use Rattle.c_grammar.specs.Readers as spec;
-ghost use Rattle.c_expressions.specs.Reads.{Reads, ReadsAs, specified_of, perhaps_of, IsNested};
+ghost use Rattle.c_marks.specs.Reads.{Reads, ReadsAs, specified_of, perhaps_of, titled_of};
+ghost use Rattle.c_marks.specs.Parts.{lines_at, constants_at};
 
-use crate::fault::{Fault, refuse};
-use crate::parts::{Perhaps, Specified};
+use c_declarators::{Declarators, TypeNames};
+use c_marks::{Fault, Perhaps, Specified, Titled, refuse};
+use c_members::{Constants, Members};
 use c_model::Token;
+use c_operands::Operands;
 use c_scopes::Cursor;
-use c_tree::Expression;
+use c_specifiers::Specifiers;
+use c_suffixes::Suffixes;
+use c_tree::{EnumConstant, Expression, MemberLine, TypeName};
+use sqlite_items::Items;
 use std::alloc::Global;
-
-/// The rules of the grammar, with what reads the parts.
-#[derive(Clone, Copy)]
-pub struct Grammar<'t, R, S, P> {
-    pub alloc: Global,
-    pub tokens: &'t [Token],
-    /// How many steps may still be taken.
-    pub depth: usize,
-    /// Reads an expression of a level or above in so many steps.
-    pub read: R,
-    /// Reads specifiers in so many steps.
-    pub specifiers: S,
-    /// Reads a declarator, or what stands for one in a parameter, in so many steps.
-    pub perhaps: P,
-}
-
-impl<
-    't,
-    R: Fn(Global, &[Token], usize, u8, &mut Cursor) -> Result<Expression, Fault>,
-    S: Fn(Global, &[Token], usize, &mut Cursor) -> Result<Specified, Fault>,
-    P: Fn(Global, &[Token], usize, &mut Cursor) -> Result<Perhaps, Fault>,
-> Grammar<'t, R, S, P> {
-    pub fn read(&self, depth: usize, least: u8, place: &mut Cursor) -> Result<Expression, Fault>
-        requires nested { IsNested self.now.depth (R.pre self.now.read) (R.post self.now.read) (S.pre self.now.specifiers) (S.post self.now.specifiers) (P.pre self.now.perhaps) (P.post self.now.perhaps) }
-        requires within { depth ≤ self.now.depth }
-        ensures { Reads (spec.read (kinds_of self.now.tokens.now) depth least place.old) result place.new }
-    {
-        (self.read)(self.alloc, self.tokens, depth, least, place)
-    }
-
-    pub fn specifiers(&self, place: &mut Cursor) -> Result<Specified, Fault>
-        requires { IsNested self.now.depth (R.pre self.now.read) (R.post self.now.read) (S.pre self.now.specifiers) (S.post self.now.specifiers) (P.pre self.now.perhaps) (P.post self.now.perhaps) }
-        ensures { ReadsAs specified_of (spec.specifiers (kinds_of self.now.tokens.now) self.now.depth place.old) result place.new }
-    {
-        (self.specifiers)(self.alloc, self.tokens, self.depth, place)
-    }
-
-    pub fn perhaps(&self, place: &mut Cursor) -> Result<Perhaps, Fault>
-        requires { IsNested self.now.depth (R.pre self.now.read) (R.post self.now.read) (S.pre self.now.specifiers) (S.post self.now.specifiers) (P.pre self.now.perhaps) (P.post self.now.perhaps) }
-        ensures { ReadsAs perhaps_of (spec.perhaps (kinds_of self.now.tokens.now) self.now.depth place.old) result place.new }
-    {
-        (self.perhaps)(self.alloc, self.tokens, self.depth, place)
-    }
-}
 
 /// An expression of a level or above.
 #[cycle(grammar)]
@@ -71,15 +31,36 @@ pub fn read(
     if depth == 0 {
         return Err(refuse(place));
     }
-    Grammar {
-        alloc,
-        tokens,
-        depth: depth - 1,
-        read,
-        specifiers,
-        perhaps,
+    Operands {
+        suffixes: Suffixes {
+            alloc,
+            tokens,
+            depth: depth - 1,
+            read,
+        },
+        types,
     }
     .operand(least, place)
+}
+
+/// A type name.
+#[cycle(grammar)]
+fn types(
+    alloc: Global,
+    tokens: &[Token],
+    depth: usize,
+    place: &mut Cursor,
+) -> Result<TypeName, Fault>
+    ensures { Reads (spec.types (kinds_of tokens.now) depth place.old) result place.new }
+{
+    TypeNames {
+        alloc,
+        tokens,
+        depth,
+        read,
+        specifiers,
+    }
+    .type_name(place)
 }
 
 /// Specifiers.
@@ -95,15 +76,75 @@ pub fn specifiers(
     if depth == 0 {
         return Err(refuse(place));
     }
-    Grammar {
+    Specifiers {
         alloc,
         tokens,
         depth: depth - 1,
+        lines,
+        constants,
+    }
+    .all_specifiers(place)
+}
+
+/// The lines of a struct, up to its `}`.
+#[cycle(grammar)]
+fn lines(
+    alloc: Global,
+    tokens: &[Token],
+    depth: usize,
+    place: &mut Cursor,
+) -> Result<Items<MemberLine>, Fault>
+    ensures { Reads (lines_at (kinds_of tokens.now) depth place.old) result place.new }
+{
+    Members {
+        alloc,
+        tokens,
+        depth,
+        read,
+        specifiers,
+        declarator,
+    }
+    .lines(place)
+}
+
+/// The constants of an enumeration, up to its `}`.
+#[cycle(grammar)]
+fn constants(
+    alloc: Global,
+    tokens: &[Token],
+    depth: usize,
+    place: &mut Cursor,
+) -> Result<Items<EnumConstant>, Fault>
+    ensures { Reads (constants_at (kinds_of tokens.now) depth place.old) result place.new }
+{
+    Constants {
+        alloc,
+        tokens,
+        depth,
+        read,
+    }
+    .constants(place)
+}
+
+/// A declarator with a name, and what has no meaning behind it.
+#[cycle(grammar)]
+fn declarator(
+    alloc: Global,
+    tokens: &[Token],
+    depth: usize,
+    place: &mut Cursor,
+) -> Result<Titled, Fault>
+    ensures { ReadsAs titled_of (spec.declarator (kinds_of tokens.now) depth place.old) result place.new }
+{
+    Declarators {
+        alloc,
+        tokens,
+        depth,
         read,
         specifiers,
         perhaps,
     }
-    .all_specifiers(place)
+    .named_declarator(place)
 }
 
 /// A declarator, or what stands for one in a parameter.
@@ -119,7 +160,7 @@ pub fn perhaps(
     if depth == 0 {
         return Err(refuse(place));
     }
-    Grammar {
+    Declarators {
         alloc,
         tokens,
         depth: depth - 1,

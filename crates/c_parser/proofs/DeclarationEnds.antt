@@ -6,13 +6,13 @@ use Rattle.c_tree.specs.declared.expression.Specifier.{Specifier}
 use Rattle.c_tree.specs.declared.declaration.Declared.{Declared}
 use Rattle.c_tree.specs.declared.declaration.External.{External}
 use Rattle.c_tree.specs.Places.{Place, next}
-use Rattle.c_expressions.specs.declared.fault.Fault.{Fault}
+use Rattle.c_marks.specs.declared.fault.Fault.{Fault}
 use Rattle.c_grammar.specs.Marks as spec
 use Rattle.c_grammar.specs.Marks.{mark_at}
-use Rattle.c_expressions.specs.declared.marks.Mark.TheVariants as mark
-use Rattle.c_expressions.specs.Bare.{bare, bare_at}
+use Rattle.c_marks.specs.declared.marks.Mark.TheVariants as mark
+use Rattle.c_marks.specs.Bare.{bare, bare_at}
 use Rattle.c_grammar.specs.Reader.{Outcome, Gives, Refuses, and_then}
-use Rattle.c_expressions.specs.Reads.{Reads}
+use Rattle.c_marks.specs.Reads.{Reads}
 use Rattle.c_grammar.specs.Readers.{declarator}
 use Rattle.c_grammar.specs.ReadTypes.{ListOf, where_semicolon, Titled}
 use Rattle.c_grammar.specs.ReadStatements.{declaration_by, declaration_end}

@@ -3,15 +3,15 @@ use Rattle.std.proofs.Common.{◌≡◌, List, [], ◌∷◌, ◌++◌, ℕ, zer
 use Rattle.std.specs.Prelude.{Result, Err}
 use Rattle.c_model.specs.declared.token.TokenKind.{TokenKind}
 use Rattle.c_tree.specs.Places.{Place, next}
-use Rattle.c_expressions.specs.declared.fault.Fault.{Fault}
-use Rattle.c_expressions.specs.declared.fault.Fault.TheVariants.{Syntax, NoMemory}
+use Rattle.c_marks.specs.declared.fault.Fault.{Fault}
+use Rattle.c_marks.specs.declared.fault.Fault.TheVariants.{Syntax, NoMemory}
 use Rattle.c_grammar.specs.Marks as spec
 use Rattle.c_grammar.specs.Marks.{mark_at}
-use Rattle.c_expressions.specs.declared.marks.Mark.TheVariants as mark
-use Rattle.c_expressions.specs.declared.marks.Mark.{Mark}
-use Rattle.c_expressions.specs.Bare.{bare, bare_at, Takes}
+use Rattle.c_marks.specs.declared.marks.Mark.TheVariants as mark
+use Rattle.c_marks.specs.declared.marks.Mark.{Mark}
+use Rattle.c_marks.specs.Bare.{bare, bare_at, Takes}
 use Rattle.c_grammar.specs.Reader.{Outcome, Gives, Refuses, and_then}
-use Rattle.c_expressions.specs.Reads.{Reads}
+use Rattle.c_marks.specs.Reads.{Reads}
 use Rattle.c_grammar.specs.ReadTypes.{ListOf, separated, separated_after, listed, listed_after, listed_comma}
 
 refused_by : {A B : Type 0} (o : Outcome A) (whole : Outcome B) (fault : Fault) (q r : Place) → (o ≡ Refuses → whole ≡ Refuses)

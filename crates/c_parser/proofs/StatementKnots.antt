@@ -3,12 +3,12 @@ use Rattle.std.proofs.Common.{◌≡◌, ℕ, suc, ◌-◌, ◌<◌, List, ap, �
 use Rattle.std.specs.Prelude.{Err}
 use Rattle.c_model.specs.declared.token.TokenKind.{TokenKind}
 use Rattle.c_tree.specs.Places.{Place}
-use Rattle.c_expressions.specs.declared.fault.Fault.{Fault}
-use Rattle.c_expressions.specs.declared.fault.Fault.TheVariants.{Syntax}
+use Rattle.c_marks.specs.declared.fault.Fault.{Fault}
+use Rattle.c_marks.specs.declared.fault.Fault.TheVariants.{Syntax}
 use Rattle.c_grammar.specs.Marks.{mark_at}
 use Rattle.c_grammar.specs.Reader.{Outcome, Refuses}
 use Rattle.c_grammar.specs.Readers.{read}
-use Rattle.c_expressions.specs.Reads.{Reads}
+use Rattle.c_marks.specs.Reads.{Reads}
 use Rattle.c_grammar.specs.ReadTypes.{listed}
 use Rattle.c_grammar.specs.ReadStatements.{initialiser, initialiser_by, declaration, statement, statement_by}
 

@@ -11,18 +11,18 @@ use Rattle.c_tree.specs.declared.statement.Branch.{Branch}
 use Rattle.c_tree.specs.declared.statement.BlockItem.{BlockItem}
 use Rattle.c_tree.specs.declared.expression.Expression.{Expression}
 use Rattle.c_tree.specs.Places.{Place, next, enter, leave}
-use Rattle.c_expressions.specs.declared.fault.Fault.{Fault}
-use Rattle.c_expressions.specs.declared.fault.Fault.TheVariants.{Syntax, NoMemory}
+use Rattle.c_marks.specs.declared.fault.Fault.{Fault}
+use Rattle.c_marks.specs.declared.fault.Fault.TheVariants.{Syntax, NoMemory}
 use Rattle.c_grammar.specs.Kinds.{kind_at}
 use Rattle.c_grammar.specs.Marks as spec
 use Rattle.c_grammar.specs.Marks.{mark_at}
-use Rattle.c_expressions.specs.declared.marks.Mark.TheVariants as mark
-use Rattle.c_expressions.specs.Bare.{bare, bare_at}
+use Rattle.c_marks.specs.declared.marks.Mark.TheVariants as mark
+use Rattle.c_marks.specs.Bare.{bare, bare_at}
 use Rattle.c_grammar.specs.Reader.{Outcome, Gives, Refuses, and_then, Reader}
 use Rattle.c_grammar.specs.ReadTypes.{ListOf}
 use Rattle.c_grammar.specs.ReadStatements.{ReadsDeclaration, ReadsStatement, block, block_by, item, chain, chain_of, chain_by, else_by, first_chained, Chain, Chains, chained, test}
 use Rattle.c_grammar.specs.ReadText.{externals, externals_by, external, text}
-use Rattle.c_expressions.specs.Reads.{Reads}
+use Rattle.c_marks.specs.Reads.{Reads}
 use Rattle.c_parser.specs.Runs.{branch, last_else, leaves, ReadsText}
 use Rattle.c_grammar.proofs.Depths.{length-kinds_of}
 use Rattle.c_parser.proofs.Prefixed.{prefixed, prefixed_none, prefixed_more, append_none, one_further}

@@ -9,11 +9,11 @@ use Rattle.c_tree.specs.declared.statement.Statement.TheVariants as statement_no
 use Rattle.c_tree.specs.declared.statement.Branch.{Branch}
 use Rattle.c_tree.specs.Places.{Place, enter, leave, next}
 use Rattle.c_tree.specs.SpellsText.{kinds_of}
-use Rattle.c_expressions.specs.declared.fault.Fault.{Fault}
-use Rattle.c_expressions.specs.declared.fault.Fault.TheVariants.{Syntax, NoMemory}
+use Rattle.c_marks.specs.declared.fault.Fault.{Fault}
+use Rattle.c_marks.specs.declared.fault.Fault.TheVariants.{Syntax, NoMemory}
 use Rattle.c_grammar.specs.Reader.{Outcome, Gives, Refuses, and_then, Reader}
 use Rattle.c_grammar.specs.ReadStatements.{ReadsStatement, statement, labelled, test}
-use Rattle.c_expressions.specs.Reads.{Reads}
+use Rattle.c_marks.specs.Reads.{Reads}
 
 -- what reads statements, in up to this many steps
 pub record RunsStatements (depth : ℕ) (pre : Global → Bor (List Token) → ℕ → MutBor Place → Type 0)

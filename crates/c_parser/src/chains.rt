@@ -5,7 +5,7 @@ ghost use Rattle.c_tree.specs.SpellsText.{kinds_of};
 ghost use Rattle.c_grammar.specs.Readers as readers;
 ghost use Rattle.c_grammar.specs.Reader.{and_then};
 ghost use Rattle.c_grammar.specs.ReadStatements as spec;
-ghost use Rattle.c_expressions.specs.Reads.{Reads};
+ghost use Rattle.c_marks.specs.Reads.{Reads};
 ghost use Rattle.c_parser.specs.Runs.{RunsStatements, branch, last_else, leaves};
 
 use crate::statements::Statements;

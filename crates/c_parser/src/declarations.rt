@@ -6,7 +6,7 @@ ghost use Rattle.c_grammar.specs.Marks.{mark_at};
 ghost use Rattle.c_grammar.specs.Readers as readers;
 ghost use Rattle.c_grammar.specs.ReadTypes.{listed, separated, separated_after};
 ghost use Rattle.c_grammar.specs.ReadStatements as spec;
-ghost use Rattle.c_expressions.specs.Reads.{Reads, ReadsAs, specified_of, titled_of};
+ghost use Rattle.c_marks.specs.Reads.{Reads, ReadsAs, specified_of, titled_of};
 
 use c_expressions::{
     Fault, Mark, Perhaps, Specified, Titled, attributes, grammar, mark_at, refuse, take,

@@ -7,7 +7,7 @@ ghost use Rattle.c_grammar.specs.ReadText as spec;
 ghost use Rattle.c_grammar.specs.ReadStatements.{declaration, block, statement, names_with, initialiser};
 ghost use Rattle.c_grammar.specs.ReadStatements as statements;
 ghost use Rattle.c_grammar.specs.Reader.{and_then};
-ghost use Rattle.c_expressions.specs.Reads.{Reads, specified_of, titled_of};
+ghost use Rattle.c_marks.specs.Reads.{Reads, specified_of, titled_of};
 ghost use Rattle.c_parser.specs.Runs.{ReadsText};
 
 use crate::declarations::{declarator, declared_after, further_names};

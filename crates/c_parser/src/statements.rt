@@ -8,7 +8,7 @@ ghost use Rattle.c_grammar.specs.Kinds.{kind_at};
 ghost use Rattle.c_grammar.specs.Marks.{mark_at};
 ghost use Rattle.c_grammar.specs.Readers as readers;
 ghost use Rattle.c_grammar.specs.ReadStatements as spec;
-ghost use Rattle.c_expressions.specs.Reads.{Reads};
+ghost use Rattle.c_marks.specs.Reads.{Reads};
 ghost use Rattle.c_parser.specs.Runs.{RunsStatements, label_statement};
 
 use crate::declarations::declaration;

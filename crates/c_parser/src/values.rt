@@ -8,7 +8,7 @@ ghost use Rattle.c_grammar.specs.Reader.{and_then, Gives};
 ghost use Rattle.c_grammar.specs.Readers as readers;
 ghost use Rattle.c_grammar.specs.ReadTypes.{where_semicolon};
 ghost use Rattle.c_grammar.specs.ReadStatements as spec;
-ghost use Rattle.c_expressions.specs.Reads.{Reads};
+ghost use Rattle.c_marks.specs.Reads.{Reads};
 
 use crate::declarations::declaration;
 use c_expressions::{Fault, Mark, begins_type, grammar, mark_at, take};

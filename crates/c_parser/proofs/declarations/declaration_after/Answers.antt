@@ -1,7 +1,7 @@
 use Rattle.std.proofs.Common.{rules}
 use Rattle.c_tree.specs.SpellsText.{kinds_of}
 use Rattle.c_grammar.specs.Marks.{mark_at}
-use Rattle.c_expressions.specs.declared.marks.Mark.TheVariants as mark
+use Rattle.c_marks.specs.declared.marks.Mark.TheVariants as mark
 use Rattle.c_grammar.specs.ReadStatements.{names_with, declaration_by}
 use Rattle.c_parser.proofs.Prefixed.{expected}
 use Rattle.c_parser.proofs.DeclarationEnds.{declaration_ends, declaration_fails}

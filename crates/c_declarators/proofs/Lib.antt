@@ -1,0 +1,4 @@
+pub mod Arrays
+pub mod Unnamed
+pub mod ParameterSteps
+pub mod DeclaratorSteps

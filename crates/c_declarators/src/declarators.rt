@@ -1,0 +1,424 @@
+//! Declarators and parameters (C11 6.7.6).
+
+ghost use Rattle.std.specs.Prelude.{◌≡◌, ◌<◌};
+ghost use Rattle.c_tree.specs.Spells as spelled;
+ghost use Rattle.c_tree.specs.SpellsText.{kinds_of};
+ghost use Rattle.c_grammar.specs.Marks as sign;
+ghost use Rattle.c_grammar.specs.Marks.{mark_at};
+ghost use Rattle.c_grammar.specs.ReadTypes as spec;
+ghost use Rattle.c_grammar.specs.Readers as readers;
+ghost use Rattle.c_marks.specs.Reads.{Reads, ReadsAs, specified_of, titled_of, perhaps_of};
+ghost use Rattle.c_marks.specs.Parts.{ReadsExpressions, ReadsPartAs};
+ghost use Rattle.c_declarators.specs.Declarators.{parameters_of, parameter_at, parameters_at, array_suffix, function_parameters, function_suffix, suffixes_at, titled_at, inner_declarator, declared_name, perhaps_at};
+
+use crate::sizes::closed_size;
+use c_marks::{
+    Fault, Mark, Perhaps, Specified, Titled, attributes, mark_at, may_qualify_parameter, name,
+    qualifiers, refuse, take,
+};
+use c_model::Token;
+use c_scopes::{Block, Cursor};
+use c_tree::{Declarator, Expression, Parameter, Qualifier, Specifier};
+use kv_base::{Copied, Sequence, Stack};
+use sqlite_items::{Boxed, Items};
+use std::alloc::Global;
+
+/// Parameters (6.7.6.3).
+#[derive(Drop)]
+pub struct Parameters {
+    pub list: Items<Parameter>,
+    /// Whether `, ...` ends them.
+    pub variadic: bool,
+}
+
+/// A pointer to what was read.
+fn pointed(
+    alloc: Global,
+    qualifiers: Sequence<Qualifier>,
+    at: usize,
+    inner: Perhaps,
+    place: &Cursor,
+) -> Result<Perhaps, Fault>
+    ensures { ReadsAs perhaps_of (spec.pointed qualifiers at (perhaps_of inner) place.now) result place.now }
+{
+    match inner {
+        Perhaps::With { titled } => {
+            let Titled {
+                name,
+                parameters,
+                inner,
+            } = titled;
+            let inner = Declarator::Pointer {
+                qualifiers,
+                inner: Boxed::new(alloc, inner)?,
+                at,
+            };
+            Ok(Perhaps::With {
+                titled: Titled {
+                    name,
+                    parameters,
+                    inner,
+                },
+            })
+        }
+        Perhaps::Without { inner } => {
+            if !may_qualify_parameter(qualifiers.as_slice()) {
+                return Err(refuse(place));
+            }
+            Ok(Perhaps::Without {
+                inner: Declarator::Pointer {
+                    qualifiers,
+                    inner: Boxed::new(alloc, inner)?,
+                    at,
+                },
+            })
+        }
+    }
+}
+
+/// The parameters nearest to the name: those that were found before, or these.
+fn nearest(found: Option<Block>, here: Block) -> Option<Block>
+    ensures { result ≡ spelled.nearest found here }
+{
+    found.or(Some(here))
+}
+
+/// The rules of declarators, with what reads the expressions, the specifiers and the declarators inside.
+#[derive(Clone, Copy)]
+pub struct Declarators<'t, R, S, P> {
+    pub alloc: Global,
+    pub tokens: &'t [Token],
+    /// How many steps may still be taken.
+    pub depth: usize,
+    /// Reads an expression of a level or above in so many steps.
+    pub read: R,
+    /// Reads specifiers in so many steps.
+    pub specifiers: S,
+    /// Reads a declarator, or what stands for one in a parameter, in so many steps.
+    pub perhaps: P,
+}
+
+impl<'t, R, S, P> Declarators<'t, R, S, P> {
+    /// A parameter whose specifiers and declarator were read. Its name is declared from here on.
+    fn parameter_after(
+        &self,
+        specifiers: Items<Specifier>,
+        perhaps: Perhaps,
+        place: &mut Cursor,
+    ) -> Result<Parameter, Fault>
+        ensures { let kinds = kinds_of self.now.tokens.now in Reads (spec.parameter_after (spec.attributes kinds self.now.depth) specifiers (perhaps_of perhaps) place.old) result place.new }
+    {
+        match perhaps {
+            Perhaps::With { titled } => {
+                let Titled { name, inner, .. } = titled;
+                attributes(self.alloc, self.tokens, self.depth, place)?;
+                place.declare(name, false)?;
+                Ok(Parameter {
+                    specifiers,
+                    declarator: inner,
+                })
+            }
+            Perhaps::Without { inner } => Ok(Parameter {
+                specifiers,
+                declarator: inner,
+            }),
+        }
+    }
+
+    /// A declared name.
+    #[tactic(auto, using(crate::proofs::DeclaratorSteps::declared_name_read))]
+    fn declared_name(&self, place: &mut Cursor) -> Result<Titled, Fault>
+        ensures { ReadsAs titled_of (declared_name place.old (mark_at (kinds_of self.now.tokens.now) place.old)) result place.new }
+    {
+        let at = place.at();
+        let name = name(self.alloc, self.tokens, place)?;
+        Ok(Titled {
+            name: name.copy(self.alloc)?,
+            parameters: None,
+            inner: Declarator::Name { name, at },
+        })
+    }
+}
+
+impl<
+    't,
+    R: Fn(Global, &[Token], usize, u8, &mut Cursor) -> Result<Expression, Fault>,
+    S,
+    P,
+> Declarators<'t, R, S, P> {
+    /// `[]` or `[size]` behind a declarator (6.7.6.2), from the `[` on.
+    #[tactic(auto, using(crate::proofs::DeclaratorSteps::array_open, crate::proofs::DeclaratorSteps::array_refused))]
+    fn array_suffix(&self, titled: Titled, place: &mut Cursor) -> Result<Titled, Fault>
+        requires expressions { ReadsExpressions self.now.depth (R.pre self.now.read) (R.post self.now.read) }
+        requires here { place.old.at < usize.MAX }
+        ensures { ReadsAs titled_of (array_suffix (kinds_of self.now.tokens.now) self.now.depth (titled_of titled) place.old) result place.new }
+    {
+        let Titled {
+            name,
+            parameters,
+            inner,
+        } = titled;
+        let at = place.at();
+        let inner = Boxed::new(self.alloc, inner)?;
+        place.skip();
+        let Mark::SquareCloses = mark_at(self.tokens, place) else {
+            let size = Boxed::new(
+                self.alloc,
+                closed_size(self.alloc, self.tokens, self.depth, &self.read, place)?,
+            )?;
+            return Ok(Titled {
+                name,
+                parameters,
+                inner: Declarator::Array { inner, size, at },
+            });
+        };
+        place.skip();
+        Ok(Titled {
+            name,
+            parameters,
+            inner: Declarator::OpenArray { inner, at },
+        })
+    }
+}
+
+impl<'t, R, S, P: Fn(Global, &[Token], usize, &mut Cursor) -> Result<Perhaps, Fault>> Declarators<
+    't,
+    R,
+    S,
+    P,
+> {
+    /// A declarator, or what stands for one in a parameter.
+    fn perhaps(&self, place: &mut Cursor) -> Result<Perhaps, Fault>
+        requires declares { ReadsPartAs perhaps_of readers.perhaps self.now.depth (P.pre self.now.perhaps) (P.post self.now.perhaps) }
+        ensures { ReadsAs perhaps_of (readers.perhaps (kinds_of self.now.tokens.now) self.now.depth place.old) result place.new }
+    {
+        (self.perhaps)(self.alloc, self.tokens, self.depth, place)
+    }
+
+    /// A declarator with a name, and what has no meaning behind it.
+    pub fn named_declarator(&self, place: &mut Cursor) -> Result<Titled, Fault>
+        requires declares { ReadsPartAs perhaps_of readers.perhaps self.now.depth (P.pre self.now.perhaps) (P.post self.now.perhaps) }
+        ensures { ReadsAs titled_of (readers.declarator (kinds_of self.now.tokens.now) self.now.depth place.old) result place.new }
+    {
+        match self.perhaps(place)? {
+            Perhaps::With { titled } => {
+                attributes(self.alloc, self.tokens, self.depth, place)?;
+                Ok(titled)
+            }
+            Perhaps::Without { .. } => Err(refuse(place)),
+        }
+    }
+
+    /// A declarator with a name in round brackets, from the `(` on.
+    #[tactic(auto, using(c_marks::proofs::Skipped::closes_taken, c_marks::proofs::Skipped::closes_missing))]
+    fn inner_declarator(&self, place: &mut Cursor) -> Result<Titled, Fault>
+        requires declares { ReadsPartAs perhaps_of readers.perhaps self.now.depth (P.pre self.now.perhaps) (P.post self.now.perhaps) }
+        requires here { place.old.at < usize.MAX }
+        ensures { ReadsAs titled_of (inner_declarator (kinds_of self.now.tokens.now) self.now.depth place.old) result place.new }
+    {
+        place.skip();
+        let titled = self.named_declarator(place)?;
+        take(self.tokens, Mark::RoundCloses, place)?;
+        Ok(titled)
+    }
+
+    /// `* qualifiers` and what they point to, from the `*` on.
+    fn pointer(&self, place: &mut Cursor) -> Result<Perhaps, Fault>
+        requires declares { ReadsPartAs perhaps_of readers.perhaps self.now.depth (P.pre self.now.perhaps) (P.post self.now.perhaps) }
+        requires here { place.old.at < usize.MAX }
+        ensures { ReadsAs perhaps_of (perhaps_at (kinds_of self.now.tokens.now) self.now.depth place.old sign.Star) result place.new }
+    {
+        let at = place.at();
+        place.skip();
+        let list = qualifiers(self.alloc, self.tokens, self.depth, place)?;
+        let inner = self.perhaps(place)?;
+        pointed(self.alloc, list, at, inner, place)
+    }
+}
+
+impl<'t, R, S: Fn(Global, &[Token], usize, &mut Cursor) -> Result<Specified, Fault>, P> Declarators<
+    't,
+    R,
+    S,
+    P,
+> {
+    /// Specifiers.
+    fn specifiers(&self, place: &mut Cursor) -> Result<Specified, Fault>
+        requires specifies { ReadsPartAs specified_of readers.specifiers self.now.depth (S.pre self.now.specifiers) (S.post self.now.specifiers) }
+        ensures { ReadsAs specified_of (readers.specifiers (kinds_of self.now.tokens.now) self.now.depth place.old) result place.new }
+    {
+        (self.specifiers)(self.alloc, self.tokens, self.depth, place)
+    }
+}
+
+impl<
+    't,
+    R,
+    S: Fn(Global, &[Token], usize, &mut Cursor) -> Result<Specified, Fault>,
+    P: Fn(Global, &[Token], usize, &mut Cursor) -> Result<Perhaps, Fault>,
+> Declarators<'t, R, S, P> {
+    /// A parameter (6.7.6.3).
+    fn parameter(&self, place: &mut Cursor) -> Result<Parameter, Fault>
+        requires specifies { ReadsPartAs specified_of readers.specifiers self.now.depth (S.pre self.now.specifiers) (S.post self.now.specifiers) }
+        requires declares { ReadsPartAs perhaps_of readers.perhaps self.now.depth (P.pre self.now.perhaps) (P.post self.now.perhaps) }
+        ensures { Reads (parameter_at (kinds_of self.now.tokens.now) self.now.depth place.old) result place.new }
+    {
+        let specified = self.specifiers(place)?;
+        let perhaps = self.perhaps(place)?;
+        self.parameter_after(specified.list, perhaps, place)
+    }
+
+    /// Parameters, up to the `)` behind them.
+    #[tactic(auto, using(crate::proofs::ParameterSteps::parameters_refused, crate::proofs::ParameterSteps::parameters_none, crate::proofs::ParameterSteps::parameters_next))]
+    fn parameters(&self, place: &mut Cursor) -> Result<Parameters, Fault>
+        requires specifies { ReadsPartAs specified_of readers.specifiers self.now.depth (S.pre self.now.specifiers) (S.post self.now.specifiers) }
+        requires declares { ReadsPartAs perhaps_of readers.perhaps self.now.depth (P.pre self.now.perhaps) (P.post self.now.perhaps) }
+        ensures { ReadsAs parameters_of (parameters_at (kinds_of self.now.tokens.now) self.now.depth place.old) result place.new }
+    {
+        let mut list = Items::new(self.alloc);
+        for _turn in 0..self.depth {
+            let parameter = self.parameter(place)?;
+            list.push(parameter)?;
+            let Mark::Comma = mark_at(self.tokens, place) else {
+                return Ok(Parameters {
+                    list,
+                    variadic: false,
+                });
+            };
+            place.skip();
+            if let Mark::Ellipsis = mark_at(self.tokens, place) {
+                place.skip();
+                return Ok(Parameters {
+                    list,
+                    variadic: true,
+                });
+            }
+        }
+        Err(refuse(place))
+    }
+
+    /// `parameters)` behind the `(` of a function declarator, which stands at `at`. The parameters are a block of
+    /// their own.
+    #[tactic(auto, using(c_marks::proofs::Skipped::closes_taken, c_marks::proofs::Skipped::closes_missing))]
+    fn function_parameters(
+        &self,
+        titled: Titled,
+        at: usize,
+        place: &mut Cursor,
+    ) -> Result<Titled, Fault>
+        requires specifies { ReadsPartAs specified_of readers.specifiers self.now.depth (S.pre self.now.specifiers) (S.post self.now.specifiers) }
+        requires declares { ReadsPartAs perhaps_of readers.perhaps self.now.depth (P.pre self.now.perhaps) (P.post self.now.perhaps) }
+        ensures { ReadsAs titled_of (function_parameters (kinds_of self.now.tokens.now) self.now.depth (titled_of titled) at place.old) result place.new }
+    {
+        let Titled {
+            name,
+            parameters,
+            inner,
+        } = titled;
+        place.enter()?;
+        let taken = self.parameters(place)?;
+        take(self.tokens, Mark::RoundCloses, place)?;
+        Ok(Titled {
+            name,
+            parameters: nearest(parameters, place.leave()),
+            inner: Declarator::Function {
+                inner: Boxed::new(self.alloc, inner)?,
+                parameters: taken.list,
+                variadic: taken.variadic,
+                at,
+            },
+        })
+    }
+
+    /// `()` or `(parameters)` behind a declarator (6.7.6.3), from the `(` on.
+    #[tactic(auto, using(crate::proofs::DeclaratorSteps::function_empty))]
+    fn function_suffix(&self, titled: Titled, place: &mut Cursor) -> Result<Titled, Fault>
+        requires specifies { ReadsPartAs specified_of readers.specifiers self.now.depth (S.pre self.now.specifiers) (S.post self.now.specifiers) }
+        requires declares { ReadsPartAs perhaps_of readers.perhaps self.now.depth (P.pre self.now.perhaps) (P.post self.now.perhaps) }
+        requires here { place.old.at < usize.MAX }
+        ensures { ReadsAs titled_of (function_suffix (kinds_of self.now.tokens.now) self.now.depth (titled_of titled) place.old) result place.new }
+    {
+        let at = place.at();
+        place.skip();
+        let Mark::RoundCloses = mark_at(self.tokens, place) else {
+            return self.function_parameters(titled, at, place);
+        };
+        place.skip();
+        let Titled {
+            name,
+            parameters,
+            inner,
+        } = titled;
+        Ok(Titled {
+            name,
+            parameters: nearest(parameters, Stack::new(self.alloc)),
+            inner: Declarator::Function {
+                inner: Boxed::new(self.alloc, inner)?,
+                parameters: Items::new(self.alloc),
+                variadic: false,
+                at,
+            },
+        })
+    }
+}
+
+impl<
+    't,
+    R: Fn(Global, &[Token], usize, u8, &mut Cursor) -> Result<Expression, Fault>,
+    S: Fn(Global, &[Token], usize, &mut Cursor) -> Result<Specified, Fault>,
+    P: Fn(Global, &[Token], usize, &mut Cursor) -> Result<Perhaps, Fault>,
+> Declarators<'t, R, S, P> {
+    /// What follows a direct declarator, as much as there is.
+    #[tactic(auto, using(crate::proofs::DeclaratorSteps::suffixes_no_array, crate::proofs::DeclaratorSteps::suffixes_no_function, crate::proofs::DeclaratorSteps::suffixes_end, crate::proofs::DeclaratorSteps::suffixes_none))]
+    fn with_suffixes(&self, titled: Titled, place: &mut Cursor) -> Result<Titled, Fault>
+        requires expressions { ReadsExpressions self.now.depth (R.pre self.now.read) (R.post self.now.read) }
+        requires specifies { ReadsPartAs specified_of readers.specifiers self.now.depth (S.pre self.now.specifiers) (S.post self.now.specifiers) }
+        requires declares { ReadsPartAs perhaps_of readers.perhaps self.now.depth (P.pre self.now.perhaps) (P.post self.now.perhaps) }
+        ensures { ReadsAs titled_of (suffixes_at (kinds_of self.now.tokens.now) self.now.depth (titled_of titled) place.old) result place.new }
+    {
+        let mut whole = titled;
+        for _turn in 0..self.depth {
+            match mark_at(self.tokens, place) {
+                Mark::SquareOpens => whole = self.array_suffix(whole, place)?,
+                Mark::RoundOpens => whole = self.function_suffix(whole, place)?,
+                _ => return Ok(whole),
+            }
+        }
+        Err(refuse(place))
+    }
+
+    /// The declarator that begins with this direct declarator.
+    fn titled(&self, direct: Titled, place: &mut Cursor) -> Result<Perhaps, Fault>
+        requires expressions { ReadsExpressions self.now.depth (R.pre self.now.read) (R.post self.now.read) }
+        requires specifies { ReadsPartAs specified_of readers.specifiers self.now.depth (S.pre self.now.specifiers) (S.post self.now.specifiers) }
+        requires declares { ReadsPartAs perhaps_of readers.perhaps self.now.depth (P.pre self.now.perhaps) (P.post self.now.perhaps) }
+        ensures { ReadsAs perhaps_of (titled_at (kinds_of self.now.tokens.now) self.now.depth (titled_of direct) place.old) result place.new }
+    {
+        let titled = self.with_suffixes(direct, place)?;
+        Ok(Perhaps::With { titled })
+    }
+
+    /// A declarator, or what stands for one in a parameter.
+    #[tactic(auto, using(crate::proofs::DeclaratorSteps::perhaps_pointer, crate::proofs::DeclaratorSteps::perhaps_name, crate::proofs::DeclaratorSteps::perhaps_no_name, crate::proofs::DeclaratorSteps::perhaps_brackets, crate::proofs::DeclaratorSteps::perhaps_no_brackets))]
+    pub fn declarator(&self, place: &mut Cursor) -> Result<Perhaps, Fault>
+        requires expressions { ReadsExpressions self.now.depth (R.pre self.now.read) (R.post self.now.read) }
+        requires specifies { ReadsPartAs specified_of readers.specifiers self.now.depth (S.pre self.now.specifiers) (S.post self.now.specifiers) }
+        requires declares { ReadsPartAs perhaps_of readers.perhaps self.now.depth (P.pre self.now.perhaps) (P.post self.now.perhaps) }
+        ensures { ReadsAs perhaps_of (let kinds = kinds_of self.now.tokens.now in let n = self.now.depth in spec.perhaps_with kinds (readers.read kinds n) (readers.specifiers kinds n) (readers.perhaps kinds n) n place.old (mark_at kinds place.old)) result place.new }
+    {
+        match mark_at(self.tokens, place) {
+            Mark::Star => self.pointer(place),
+            Mark::Name => {
+                let direct = self.declared_name(place)?;
+                self.titled(direct, place)
+            }
+            Mark::RoundOpens => {
+                let direct = self.inner_declarator(place)?;
+                self.titled(direct, place)
+            }
+            _ => Ok(Perhaps::Without {
+                inner: Declarator::Unnamed { at: place.at() },
+            }),
+        }
+    }
+}

@@ -1,4 +1,0 @@
-pub mod Reads
-pub mod Bare
-pub mod Declarators
-pub mod Specifiers

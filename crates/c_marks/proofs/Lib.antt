@@ -1,0 +1,5 @@
+pub mod Lists
+pub mod Single
+pub mod Skipped
+pub mod SameMark
+pub mod Qualifies

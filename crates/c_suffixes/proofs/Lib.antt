@@ -1,0 +1,2 @@
+pub mod Suffixed
+pub mod Gathered

@@ -1,0 +1,366 @@
+//! What stands behind an operand, by the levels of the operators (C11 6.5).
+
+ghost use Rattle.std.specs.Prelude.{◌≡◌, ◌≤◌, ◌<◌, [], ◌∷◌, IfOk};
+ghost use Rattle.c_tree.specs.SpellsText.{kinds_of};
+ghost use Rattle.c_tree.specs.declared.expression.Expression.TheVariants as tree;
+ghost use Rattle.c_grammar.specs.declared.kinds.Suffix.TheVariants as Suffix;
+ghost use Rattle.c_grammar.specs.Reader as spec;
+ghost use Rattle.c_grammar.specs.Readers as readers;
+ghost use Rattle.c_marks.specs.Reads.{Reads, IsSuffix};
+ghost use Rattle.c_marks.specs.Parts.{ReadsExpressions};
+ghost use Rattle.c_suffixes.specs.Suffixed.{stop, suffixed};
+
+use c_grammar::{ASSIGNMENT, CONDITIONAL, Suffix, level};
+use c_marks::{Fault, close_round, close_square, colon, name, refuse, suffix};
+use c_model::Token;
+use c_scopes::Cursor;
+use c_tree::{AssignOperator, BinaryOperator, Expression, Step};
+use kv_base::NoMemory;
+use sqlite_items::{Boxed, Items};
+use std::alloc::Global;
+
+fn conditional(
+    alloc: Global,
+    test: Expression,
+    taken: Expression,
+    otherwise: Expression,
+    at: usize,
+) -> Result<Expression, NoMemory>
+    ensures { IfOk result (λ made. made ≡ tree.Conditional test taken otherwise at) }
+{
+    Ok(Expression::Conditional {
+        test: Boxed::new(alloc, test)?,
+        then: Boxed::new(alloc, taken)?,
+        otherwise: Boxed::new(alloc, otherwise)?,
+        at,
+    })
+}
+
+fn with_first(
+    alloc: Global,
+    first: Expression,
+    further: Items<Expression>,
+) -> Result<Items<Expression>, NoMemory>
+    ensures { IfOk result (λ made. made ≡ first ∷ further) }
+{
+    let mut parts = Items::new(alloc);
+    parts.push(first)?;
+    parts.append(further)?;
+    Ok(parts)
+}
+
+/// The rules of what stands behind an operand, with what reads the expressions inside.
+#[derive(Clone, Copy)]
+pub struct Suffixes<'t, R> {
+    pub alloc: Global,
+    pub tokens: &'t [Token],
+    /// How many steps may still be taken.
+    pub depth: usize,
+    /// Reads an expression of a level or above in so many steps.
+    pub read: R,
+}
+
+impl<'t, R: Fn(Global, &[Token], usize, u8, &mut Cursor) -> Result<Expression, Fault>> Suffixes<
+    't,
+    R,
+> {
+    /// An expression of a level or above, in up to so many steps.
+    pub fn read(&self, depth: usize, least: u8, place: &mut Cursor) -> Result<Expression, Fault>
+        requires nested { ReadsExpressions self.now.depth (R.pre self.now.read) (R.post self.now.read) }
+        requires within { depth ≤ self.now.depth }
+        ensures { Reads (readers.read (kinds_of self.now.tokens.now) depth least place.old) result place.new }
+    {
+        (self.read)(self.alloc, self.tokens, depth, least, place)
+    }
+
+    /// Assignment expressions with a comma between each two.
+    fn items(&self, depth: usize, place: &mut Cursor) -> Result<Items<Expression>, Fault>
+        requires nested { ReadsExpressions self.now.depth (R.pre self.now.read) (R.post self.now.read) }
+        requires within { depth ≤ self.now.depth }
+        ensures { let kinds = kinds_of self.now.tokens.now in Reads (spec.items kinds (readers.read kinds depth) depth place.old) result place.new }
+    {
+        let mut found = Items::new(self.alloc);
+        for _turn in 0..depth {
+            let part = self.read(depth, ASSIGNMENT, place)?;
+            found.push(part)?;
+            let Suffix::Commas = suffix(self.tokens, place) else {
+                return Ok(found);
+            };
+            place.skip();
+        }
+        Err(refuse(place))
+    }
+
+    fn infix(
+        &self,
+        depth: usize,
+        left: Expression,
+        operator: BinaryOperator,
+        place: &mut Cursor,
+    ) -> Result<Expression, Fault>
+        requires nested { ReadsExpressions self.now.depth (R.pre self.now.read) (R.post self.now.read) }
+        requires within { depth ≤ self.now.depth }
+        requires here { place.old.at < usize.MAX }
+        ensures { Reads (suffixed (kinds_of self.now.tokens.now) depth left place.old (Suffix.Infix operator)) result place.new }
+    {
+        let at = place.at();
+        place.skip();
+        let right = self.read(depth, level(operator) + 1, place)?;
+        Ok(Expression::Binary {
+            operator,
+            left: Boxed::new(self.alloc, left)?,
+            right: Boxed::new(self.alloc, right)?,
+            at,
+        })
+    }
+
+    fn assigned(
+        &self,
+        depth: usize,
+        target: Expression,
+        operator: AssignOperator,
+        place: &mut Cursor,
+    ) -> Result<Expression, Fault>
+        requires nested { ReadsExpressions self.now.depth (R.pre self.now.read) (R.post self.now.read) }
+        requires within { depth ≤ self.now.depth }
+        requires here { place.old.at < usize.MAX }
+        ensures { Reads (suffixed (kinds_of self.now.tokens.now) depth target place.old (Suffix.Assigns operator)) result place.new }
+    {
+        let at = place.at();
+        place.skip();
+        let value = self.read(depth, ASSIGNMENT, place)?;
+        Ok(Expression::Assign {
+            operator,
+            target: Boxed::new(self.alloc, target)?,
+            value: Boxed::new(self.alloc, value)?,
+            at,
+        })
+    }
+
+    fn chosen(
+        &self,
+        depth: usize,
+        test: Expression,
+        place: &mut Cursor,
+    ) -> Result<Expression, Fault>
+        requires nested { ReadsExpressions self.now.depth (R.pre self.now.read) (R.post self.now.read) }
+        requires within { depth ≤ self.now.depth }
+        requires here { place.old.at < usize.MAX }
+        ensures { Reads (suffixed (kinds_of self.now.tokens.now) depth test place.old Suffix.Asks) result place.new }
+    {
+        let at = place.at();
+        place.skip();
+        let taken = self.read(depth, 0, place)?;
+        self.choice(depth, test, at, taken, place)
+    }
+
+    /// The last part of a choice.
+    #[tactic(auto, using(c_marks::proofs::Single::colon_then))]
+    fn choice(
+        &self,
+        depth: usize,
+        test: Expression,
+        at: usize,
+        taken: Expression,
+        place: &mut Cursor,
+    ) -> Result<Expression, Fault>
+        requires nested { ReadsExpressions self.now.depth (R.pre self.now.read) (R.post self.now.read) }
+        requires within { depth ≤ self.now.depth }
+        ensures { let kinds = kinds_of self.now.tokens.now in Reads (spec.choice_of kinds (readers.read kinds depth) stop 0 test (record { at = at; blocks = [] }) taken place.old) result place.new }
+    {
+        colon(self.tokens, place)?;
+        let otherwise = self.read(depth, CONDITIONAL, place)?;
+        Ok(conditional(self.alloc, test, taken, otherwise, at)?)
+    }
+
+    fn with_commas(
+        &self,
+        depth: usize,
+        first: Expression,
+        place: &mut Cursor,
+    ) -> Result<Expression, Fault>
+        requires nested { ReadsExpressions self.now.depth (R.pre self.now.read) (R.post self.now.read) }
+        requires within { depth ≤ self.now.depth }
+        requires here { place.old.at < usize.MAX }
+        ensures { Reads (suffixed (kinds_of self.now.tokens.now) depth first place.old Suffix.Commas) result place.new }
+    {
+        let at = place.at();
+        place.skip();
+        let further = self.items(depth, place)?;
+        let parts = with_first(self.alloc, first, further)?;
+        Ok(Expression::Comma { parts, at })
+    }
+
+    #[tactic(auto, using(c_marks::proofs::Single::square_then))]
+    fn subscripted(
+        &self,
+        depth: usize,
+        array: Expression,
+        place: &mut Cursor,
+    ) -> Result<Expression, Fault>
+        requires nested { ReadsExpressions self.now.depth (R.pre self.now.read) (R.post self.now.read) }
+        requires within { depth ≤ self.now.depth }
+        requires here { place.old.at < usize.MAX }
+        ensures { Reads (suffixed (kinds_of self.now.tokens.now) depth array place.old Suffix.Subscripts) result place.new }
+    {
+        let at = place.at();
+        place.skip();
+        let index = self.read(depth, 0, place)?;
+        close_square(self.tokens, place)?;
+        Ok(Expression::Subscript {
+            array: Boxed::new(self.alloc, array)?,
+            index: Boxed::new(self.alloc, index)?,
+            at,
+        })
+    }
+
+    #[tactic(auto, using(c_marks::proofs::Single::round_then))]
+    fn called(
+        &self,
+        depth: usize,
+        function: Expression,
+        place: &mut Cursor,
+    ) -> Result<Expression, Fault>
+        requires nested { ReadsExpressions self.now.depth (R.pre self.now.read) (R.post self.now.read) }
+        requires within { depth ≤ self.now.depth }
+        requires here { place.old.at < usize.MAX }
+        ensures { Reads (suffixed (kinds_of self.now.tokens.now) depth function place.old Suffix.Calls) result place.new }
+    {
+        let at = place.at();
+        let function = Boxed::new(self.alloc, function)?;
+        place.skip();
+        match suffix(self.tokens, place) {
+            Suffix::ClosesRound => {
+                place.skip();
+                Ok(Expression::Call {
+                    function,
+                    arguments: Items::new(self.alloc),
+                    at,
+                })
+            }
+            _ => {
+                let arguments = self.items(depth, place)?;
+                close_round(self.tokens, place)?;
+                Ok(Expression::Call {
+                    function,
+                    arguments,
+                    at,
+                })
+            }
+        }
+    }
+
+    #[tactic(auto, using(c_marks::proofs::Single::name_then))]
+    fn selected(
+        &self,
+        depth: usize,
+        object: Expression,
+        place: &mut Cursor,
+    ) -> Result<Expression, Fault>
+        requires here { place.old.at < usize.MAX }
+        ensures { Reads (suffixed (kinds_of self.now.tokens.now) depth object place.old Suffix.Selects) result place.new }
+    {
+        let at = place.at();
+        place.skip();
+        let name = name(self.alloc, self.tokens, place)?;
+        Ok(Expression::Member {
+            object: Boxed::new(self.alloc, object)?,
+            name,
+            at,
+        })
+    }
+
+    #[tactic(auto, using(c_marks::proofs::Single::name_then))]
+    fn pointed(
+        &self,
+        depth: usize,
+        pointer: Expression,
+        place: &mut Cursor,
+    ) -> Result<Expression, Fault>
+        requires here { place.old.at < usize.MAX }
+        ensures { Reads (suffixed (kinds_of self.now.tokens.now) depth pointer place.old Suffix.Points) result place.new }
+    {
+        let at = place.at();
+        place.skip();
+        let name = name(self.alloc, self.tokens, place)?;
+        Ok(Expression::PointedMember {
+            pointer: Boxed::new(self.alloc, pointer)?,
+            name,
+            at,
+        })
+    }
+
+    fn stepped(
+        &self,
+        depth: usize,
+        operand: Expression,
+        step: Step,
+        place: &mut Cursor,
+    ) -> Result<Expression, Fault>
+        requires here { place.old.at < usize.MAX }
+        ensures { Reads (suffixed (kinds_of self.now.tokens.now) depth operand place.old (Suffix.Steps step)) result place.new }
+    {
+        let at = place.at();
+        place.skip();
+        Ok(Expression::Postfix {
+            step,
+            operand: Boxed::new(self.alloc, operand)?,
+            at,
+        })
+    }
+
+    /// An operand with its next suffix.
+    fn suffixed(
+        &self,
+        depth: usize,
+        left: Expression,
+        suffix: Suffix,
+        place: &mut Cursor,
+    ) -> Result<Expression, Fault>
+        requires nested { ReadsExpressions self.now.depth (R.pre self.now.read) (R.post self.now.read) }
+        requires within { depth ≤ self.now.depth }
+        requires here { IsSuffix suffix → place.old.at < usize.MAX }
+        ensures { Reads (suffixed (kinds_of self.now.tokens.now) depth left place.old suffix) result place.new }
+    {
+        match suffix {
+            Suffix::Infix(operator) => self.infix(depth, left, operator, place),
+            Suffix::Assigns(operator) => self.assigned(depth, left, operator, place),
+            Suffix::Asks => self.chosen(depth, left, place),
+            Suffix::Commas => self.with_commas(depth, left, place),
+            Suffix::Subscripts => self.subscripted(depth, left, place),
+            Suffix::Calls => self.called(depth, left, place),
+            Suffix::Selects => self.selected(depth, left, place),
+            Suffix::Points => self.pointed(depth, left, place),
+            Suffix::Steps(step) => self.stepped(depth, left, step, place),
+            Suffix::ClosesRound | Suffix::ClosesSquare | Suffix::Colons | Suffix::NoSuffix => {
+                Err(refuse(place))
+            }
+        }
+    }
+
+    /// What follows an operand of a level, in an expression of a level or above.
+    pub fn more(
+        &self,
+        mut reached: u8,
+        least: u8,
+        mut left: Expression,
+        place: &mut Cursor,
+    ) -> Result<Expression, Fault>
+        requires nested { ReadsExpressions self.now.depth (R.pre self.now.read) (R.post self.now.read) }
+        ensures { Reads (readers.more (kinds_of self.now.tokens.now) self.now.depth reached least left place.old) result place.new }
+    {
+        for turn in 0..self.depth {
+            let next = suffix(self.tokens, place);
+            if !next.goes_on(reached, least) {
+                return Ok(left);
+            }
+            let depth = self.depth - turn - 1;
+            left = self.suffixed(depth, left, next, place)?;
+            reached = next.reaches();
+        }
+        if suffix(self.tokens, place).goes_on(reached, least) {
+            return Err(refuse(place));
+        }
+        Ok(left)
+    }
+}
