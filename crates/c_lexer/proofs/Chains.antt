@@ -211,19 +211,19 @@ lookup_new (row ∷ D) x text h = by (bytes_eq row.0 x) h (lookup_new D x text)
     by true h rest = cc
     by false h rest = rest h
 
-edge_grows : (D E : Definitions) (x y : List ℕ) → Edge D x y → Edge (D ++ E) x y
+pub edge_grows : (D E : Definitions) (x y : List ℕ) → Edge D x y → Edge (D ++ E) x y
 edge_grows D E x y e = record { no_word = e.no_word; text = lookup_grows D E x y e.text; no_number = e.no_number }
 
 steps_grow : (D E : Definitions) (k : ℕ) (x z : List ℕ) → Steps D k x z → Steps (D ++ E) k x z
 steps_grow D E zero x z s = s
 steps_grow D E (suc k) x z s = (s.0, edge_grows D E x s.0 s.1, steps_grow D E k s.0 z s.2)
 
-front_kept : {X : Type 0} (xs : List X) (x : X) (i : ℕ) (d : X) → i < length xs → get_or (xs ++ x ∷ []) i d ≡ get_or xs i d
+pub front_kept : {X : Type 0} (xs : List X) (x : X) (i : ℕ) (d : X) → i < length xs → get_or (xs ++ x ∷ []) i d ≡ get_or xs i d
 front_kept [] x i d h = absurd (omega arith)
 front_kept (y ∷ xs) x zero d h = refl
 front_kept (y ∷ xs) x (suc i) d h = front_kept xs x i d (omega arith)
 
-last_new : {X : Type 0} (xs : List X) (x : X) (d : X) → get_or (xs ++ x ∷ []) (length xs) d ≡ x
+pub last_new : {X : Type 0} (xs : List X) (x : X) (d : X) → get_or (xs ++ x ∷ []) (length xs) d ≡ x
 last_new [] x d = refl
 last_new (y ∷ xs) x d = last_new xs x d
 
@@ -251,6 +251,7 @@ pub linked_push : (D : Definitions) (ahead : List ℕ) (x text : List ℕ) → I
 linked_push D ahead x text linked new = record {
   count = let c = linked.count in omega (arith, length-append D ((x, text) ∷ []), length-append ahead (length D ∷ []));
   texts = λ i h. by_texts i h (less i h);
+  unique = λ i j h k same. by_unique i j same (less i h) (less j k);
   links = λ i h. by_links i h (less i h);
 }
   where
@@ -276,6 +277,22 @@ linked_push D ahead x text linked new = record {
         let a : x ≡ name_at (D ++ (x, text) ∷ []) i = ap (λ r. r.0) (sym row) in
         let b : text ≡ text_at (D ++ (x, text) ∷ []) i = ap (λ r. r.1) (sym row) in
         subst (λ y. lookup (D ++ (x, text) ∷ []) y ≡ Some (text_at (D ++ (x, text) ∷ []) i)) a (lookup_new D x text new ∙ ap (λ t. Some t) b)
+
+    old_name : (i : ℕ) → i < length D → name_at (D ++ (x, text) ∷ []) i ≡ name_at D i
+    old_name i l = ap (λ r. r.0) (front_kept D (x, text) i ([], []) l)
+
+    new_name : (i : ℕ) → i ≡ length D → name_at (D ++ (x, text) ∷ []) i ≡ x
+    new_name i e = ap (name_at (D ++ (x, text) ∷ [])) e ∙ ap (λ r. r.0) (last_new D (x, text) ([], []))
+
+    -- the new name isn't defined yet
+    apart : (i : ℕ) → i < length D → name_at D i ≡ x → ⊥
+    apart i l same = let found : lookup D x ≡ Some (text_at D i) = subst (λ y. lookup D y ≡ Some (text_at D i)) same (linked.texts i l) in cc
+
+    by_unique : (i j : ℕ) → name_at (D ++ (x, text) ∷ []) i ≡ name_at (D ++ (x, text) ∷ []) j → (i < length D) ⊎ (i ≡ length D) → (j < length D) ⊎ (j ≡ length D) → i ≡ j
+    by_unique i j same (inl l) (inl m) = linked.unique i j l m (sym (old_name i l) ∙ same ∙ old_name j m)
+    by_unique i j same (inl l) (inr f) = absurd (apart i l (sym (old_name i l) ∙ same ∙ new_name j f))
+    by_unique i j same (inr e) (inl m) = absurd (apart j m (sym (old_name j m) ∙ sym same ∙ new_name i e))
+    by_unique i j same (inr e) (inr f) = e ∙ sym f
 
     by_links : (i : ℕ) → i < length (D ++ (x, text) ∷ []) → (i < length D) ⊎ (i ≡ length D) → IsAhead (D ++ (x, text) ∷ []) i (get_or (ahead ++ length D ∷ []) i 0)
     by_links i h (inl l) =

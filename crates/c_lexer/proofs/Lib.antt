@@ -2,5 +2,9 @@ pub mod Replacing
 pub mod Sizes
 pub mod Dividing
 pub mod Chains
+pub mod Circles
+pub mod Marks
+pub mod Trails
+pub mod Known
 pub mod Places
 pub mod Links

@@ -1,15 +1,13 @@
 -- One replacement of a name.
-use Rattle.std.proofs.Common.{◌≡◌, ℕ, zero, suc, true, false, List, [], ◌∷◌, ◌++◌, ◌||◌, Some, None, refl, sym, ap, ◌∙◌, Vec}
+use Rattle.std.proofs.Common.{◌≡◌, ℕ, suc, true, false, List, [], ◌∷◌, ◌++◌, Some, None}
 use Rattle.std.specs.List.{list_any}
 use Rattle.std.specs.Str.{bytes_eq}
-use Rattle.indexmap.specs.IndexSet.{insert_key}
 use Rattle.c_model.specs.declared.token.TokenKind.{TokenKind}
 use Rattle.c_model.specs.declared.token.TokenKind.TheVariants.{Name}
 use Rattle.c_model.specs.declared.data_model.DataModel.{DataModel}
 use Rattle.c_model.specs.Words.{lookup, words}
 use Rattle.c_model.specs.Pieces.{begins_digit}
 use Rattle.c_model.specs.Constants.{number_of}
-use Rattle.c_lexer.specs.Tables.{texts_view}
 use Rattle.c_model.specs.Reading.{Names, replaced, given_or_name, number_kind}
 
 module _ (n : ℕ) (model : DataModel) (names : Names) (met : List (List ℕ)) (name : List ℕ) where
@@ -40,22 +38,3 @@ module _ (n : ℕ) (model : DataModel) (names : Names) (met : List (List ℕ)) (
       → replaced (suc n) model names met name ≡ replaced n model names (met ++ name ∷ []) text
   unfolding replaced words number_of
   replaced_next text word again defined digit = rw (word, again, defined, digit)
-
-pub replaced_zero : (model : DataModel) (names : Names) (met : List (List ℕ)) (name : List ℕ) → replaced zero model names met name ≡ Name name
-unfolding replaced
-replaced_zero model names met name = refl
-
-module _ {Z : Type 0} where
-  -- a set has a name where its texts have
-  pub any_texts : (name : List ℕ) (texts : List (Vec ℕ Z)) → list_any (bytes_eq name) (texts_view texts) ≡ list_any (λ text. bytes_eq name text.items) texts
-  any_texts name [] = refl
-  any_texts name (t ∷ texts) = ap (λ b. bytes_eq name t.items || b) (any_texts name texts)
-
-  pub texts-push : (texts : List (Vec ℕ Z)) (text : Vec ℕ Z) → texts_view (texts ++ text ∷ []) ≡ texts_view texts ++ text.items ∷ []
-  texts-push [] text = refl
-  texts-push (t ∷ texts) text = ap (λ rest. t.items ∷ rest) (texts-push texts text)
-
-  -- a new text goes last in a set
-  pub texts-insert : (texts : List (Vec ℕ Z)) (text : Vec ℕ Z) → list_any (bytes_eq text.items) (texts_view texts) ≡ false
-      → texts_view (insert_key (λ x y. bytes_eq x.items y.items) texts text) ≡ texts_view texts ++ text.items ∷ []
-  texts-insert texts text new = rw (sym (any_texts text.items texts) ∙ new) (texts-push texts text)

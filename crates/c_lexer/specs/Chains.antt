@@ -68,4 +68,5 @@ pub record IsAhead (D : Definitions) (i j : ℕ) : Type 0 where
 pub record IsLinked (D : Definitions) (ahead : List ℕ) : Type 0 where
   pub count : length ahead ≡ length D
   pub texts : (i : ℕ) → i < length D → lookup D (name_at D i) ≡ Some (text_at D i)
+  pub unique : (i j : ℕ) → i < length D → j < length D → name_at D i ≡ name_at D j → i ≡ j
   pub links : (i : ℕ) → i < length D → IsAhead D i (slice_index_or ahead i 0)

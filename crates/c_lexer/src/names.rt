@@ -1,6 +1,7 @@
-ghost use Rattle.std.specs.Prelude.{◌≡◌, ◌++◌, ◌<◌, length, Some, None, IfOk, IfSome, MatchOption, OnOk};
-ghost use Rattle.c_lexer.specs.Chains.{Becomes, IsAhead, IsNoWord, IsPlace, name_at, text_at};
-ghost use Rattle.c_lexer.specs.Nexts.{IsNext};
+ghost use Rattle.std.specs.Prelude.{◌≡◌, ◌++◌, ◌<◌, true, length, slice_index, slice_index_or, slice_set, Some, None, IfOk, IfSome, MatchOption, OnOk};
+ghost use Rattle.c_lexer.specs.Chains.{Becomes, Edge, IsAhead, IsNoWord, IsPlace, name_at, text_at};
+ghost use Rattle.c_lexer.specs.Circles.{IsTrail, Returns, is_marked};
+ghost use Rattle.c_lexer.specs.Nexts.{IsChain, IsNext, IsStep};
 ghost use Rattle.std.specs.List.{list_any};
 ghost use Rattle.c_model.specs.Words.{lookup, words};
 ghost use Rattle.c_model.specs.Headers.{names_of, limits_names, stdbool_names, stddef_names, stdint_names};
@@ -8,7 +9,7 @@ ghost use Rattle.c_model.specs.Reading.{defined, given, given_or_name, if_includ
 ghost use Rattle.c_scan.specs.Rows.{rows};
 ghost use Rattle.c_lexer.specs.HeaderRows.{header_view};
 ghost use Rattle.c_scan.specs.Numbers.{number_view};
-ghost use Rattle.c_lexer.specs.Tables.{IsKnown, Tells, names_view};
+ghost use Rattle.c_lexer.specs.Tables.{IsKnown, OnlyMarks, Tells, names_view};
 
 use crate::headers::{Header, limits_rows, stdbool_rows, stddef_rows, stdint_rows};
 use c_model::{DataModel, TokenKind};
@@ -26,6 +27,24 @@ enum Next {
     Goes(usize),
 }
 
+/// How a chain of replacements goes on.
+#[derive(Drop)]
+enum Chain {
+    /// It ends at a token.
+    Ends(TokenKind),
+    /// It goes over these definitions to one that is marked.
+    Joins {
+        over: IndexSet<usize>,
+        at: usize,
+    },
+    /// It goes over these definitions, and then back to the one at this place of them.
+    Circles {
+        over: IndexSet<usize>,
+        at: usize,
+        from: usize,
+    },
+}
+
 /// What the directives so far say of names: the text that replaces each defined one, and what the
 /// included headers give.
 #[derive(Drop)]
@@ -34,6 +53,11 @@ pub(crate) struct Names {
     defined: IndexMap<Vec<u8>, Vec<u8>>,
     /// For the definition at each place, one whose name is reached from its name.
     ahead: Vec<usize>,
+    /// For the definition at each place, the one whose name its name becomes, where its chain is known
+    /// to come back.
+    returns: Vec<Option<usize>>,
+    /// For the definition at each place, the number that its text is.
+    numbers: Vec<Number>,
     limits: bool,
     stdbool: bool,
     stddef: bool,
@@ -70,6 +94,8 @@ impl Names {
             model,
             defined: IndexMap::new(alloc),
             ahead: Vec::new(alloc),
+            returns: Vec::new(alloc),
+            numbers: Vec::new(alloc),
             limits: false,
             stdbool: false,
             stddef: false,
@@ -85,6 +111,17 @@ impl Names {
         match self.defined.get_full(name) {
             Some((place, _, _)) => Some(place),
             None => None,
+        }
+    }
+
+    /// The name of the definition at a place.
+    fn name_at(&self, place: usize) -> &[u8]
+        requires { place < length (names_view self.now).defined }
+        ensures { result.now ≡ name_at (names_view self.entry.now).defined place }
+    {
+        match self.defined.get_index(place) {
+            Some((name, _)) => name.as_slice(),
+            None => unreachable!(),
         }
     }
 
@@ -112,57 +149,17 @@ impl Names {
         }
     }
 
-    /// What a name is after all its replacements, by making each of them.
-    fn replaced_in_turn(
-        &self,
-        alloc: Global,
-        table: &[Row],
-        name: &[u8],
-    ) -> Result<TokenKind, NoMemory>
-        requires table { rows table.now ≡ words }
-        requires known { IsKnown self.now }
-        ensures { IfOk result (λ kind. kind ≡ kind_of_name self.now.model (names_view self.now) name.now) }
-    {
-        let mut met: IndexSet<Vec<u8>> = IndexSet::new(alloc);
-        let mut current = Vec::from_slice(alloc, name)?;
-        let mut left = self.defined.len() + 1;
-        while left > 0 {
-            left -= 1;
-            if let Some(kind) = find(alloc, table, &current)? {
-                return Ok(kind);
-            }
-            if met.contains(current.as_slice()) {
-                return Ok(TokenKind::Name {
-                    text: Sequence::from_vec(current),
-                });
-            }
-            let Some(place) = self.place_of(&current) else {
-                return self.given_or_name(alloc, &current);
-            };
-            let text = self.text_at(place);
-            if begins_digit(text) {
-                return Ok(number_kind(number_of(self.model, text)));
-            }
-            let next = Vec::from_slice(alloc, text)?;
-            met.insert(current)?;
-            current = next;
-        }
-        Ok(TokenKind::Name {
-            text: Sequence::from_vec(current),
-        })
-    }
-
     /// What replaces the name of the definition at a place.
     fn next(&self, alloc: Global, table: &[Row], place: usize) -> Result<Next, NoMemory>
         requires table { rows table.now ≡ words }
         requires known { IsKnown self.now }
         requires place { place < length (names_view self.now).defined }
         requires no_word { IsNoWord (name_at (names_view self.now).defined place) }
-        ensures { IfOk result (IsNext self.now.model (names_view self.now) (name_at (names_view self.now).defined place)) }
+        ensures { IfOk result (IsStep self.now.model (names_view self.now) (name_at (names_view self.now).defined place)) }
     {
         let text = self.text_at(place);
         if begins_digit(text) {
-            return Ok(Next::Ends(number_kind(number_of(self.model, text))));
+            return Ok(Next::Ends(number_kind(self.numbers[place])));
         }
         if let Some(kind) = find(alloc, table, text)? {
             return Ok(Next::Ends(kind));
@@ -211,7 +208,7 @@ impl Names {
         }
     }
 
-    /// What stands at the end of the chain from the definition at a place on, unless it comes back to one.
+    /// What stands at the end of the chain from the definition at a place on, unless it comes back.
     fn end_from(
         &mut self,
         alloc: Global,
@@ -230,7 +227,7 @@ impl Names {
         let mut met: IndexSet<usize> = IndexSet::new(alloc);
         let mut at = first;
         for _turn in 0..=self.defined.len() {
-            if !met.insert(at)? {
+            if self.returns[at].is_some() || !met.insert(at)? {
                 return Ok(None);
             }
             match self.advance(alloc, table, at)? {
@@ -239,6 +236,145 @@ impl Names {
             }
         }
         Ok(None)
+    }
+
+    /// The chain from the definition at a place on, one replacement after another.
+    fn walk(&self, alloc: Global, table: &[Row], first: usize) -> Result<Chain, NoMemory>
+        requires table { rows table.now ≡ words }
+        requires known { IsKnown self.now }
+        requires place { first < length (names_view self.now).defined }
+        requires no_word { IsNoWord (name_at (names_view self.now).defined first) }
+        ensures { IfOk result (IsChain self.now.model (names_view self.now) self.now.returns.items first) }
+    {
+        let mut over: IndexSet<usize> = IndexSet::new(alloc);
+        let mut at = first;
+        'chain: while self.returns[at].is_none() {
+            if let Some(from) = over.get_index_of(&at) {
+                return Ok(Chain::Circles { over, at, from });
+            }
+            match self.next(alloc, table, at)? {
+                Next::Goes(place) => {
+                    over.insert(at)?;
+                    at = place;
+                }
+                Next::Ends(kind) => return Ok(Chain::Ends(kind)),
+            }
+        }
+        Ok(Chain::Joins { over, at })
+    }
+
+    /// Notes that the name of the definition at a place becomes that of another one.
+    fn note_return(&mut self, place: usize, end: usize)
+        requires { place < length self.old.returns.items }
+        ensures marks { self.new.returns.items ≡ slice_set self.old.returns.items place (Some end) }
+        ensures others { OnlyMarks self.old self.new }
+    {
+        self.returns[place] = Some(end);
+    }
+
+    /// Marks each definition on a circle, which begins at `from` and goes on to `at` again.
+    fn mark_circle(&mut self, over: &[usize], at: usize, from: usize)
+        requires known { IsKnown self.old }
+        requires trail { IsTrail (names_view self.old).defined over.now at }
+        requires within { at < length (names_view self.old).defined }
+        requires no_word { IsNoWord (name_at (names_view self.old).defined at) }
+        requires from { from < length over.now }
+        requires begins { slice_index over.now from ≡ at }
+        requires returns { Returns (names_view self.old).defined (name_at (names_view self.old).defined at) (name_at (names_view self.old).defined at) }
+        ensures names { names_view self.new ≡ names_view self.old }
+        ensures known { IsKnown self.new }
+        ensures model { self.new.model ≡ self.old.model }
+        ensures marked { is_marked self.new.returns.items at ≡ true }
+    {
+        for k in from..over.len() {
+            self.note_return(over[k], over[k]);
+        }
+    }
+
+    /// Marks a definition as the next one on its chain is marked, unless it is marked already.
+    fn mark_lead(&mut self, place: usize, next: usize)
+        requires known { IsKnown self.old }
+        requires place { place < length (names_view self.old).defined }
+        requires next { next < length (names_view self.old).defined }
+        requires edge { Edge (names_view self.old).defined (name_at (names_view self.old).defined place) (name_at (names_view self.old).defined next) }
+        requires marked { is_marked self.old.returns.items next ≡ true }
+        ensures names { names_view self.new ≡ names_view self.old }
+        ensures known { IsKnown self.new }
+        ensures model { self.new.model ≡ self.old.model }
+        ensures marked { is_marked self.new.returns.items place ≡ true }
+    {
+        if self.returns[place].is_some() {
+            return;
+        }
+        match self.returns[next] {
+            Some(end) => self.note_return(place, end),
+            None => unreachable!(),
+        }
+    }
+
+    /// Marks each definition that leads to a marked one, as that one is.
+    fn mark_leads(&mut self, over: &[usize], at: usize)
+        requires known { IsKnown self.old }
+        requires trail { IsTrail (names_view self.old).defined over.now at }
+        requires within { at < length (names_view self.old).defined }
+        requires marked { is_marked self.old.returns.items at ≡ true }
+        ensures names { names_view self.new ≡ names_view self.old }
+        ensures known { IsKnown self.new }
+        ensures model { self.new.model ≡ self.old.model }
+        ensures marked { is_marked self.new.returns.items (slice_index_or over.now 0 at) ≡ true }
+    {
+        let mut next = at;
+        let mut left = over.len();
+        while left > 0 {
+            left -= 1;
+            self.mark_lead(over[left], next);
+            next = over[left];
+        }
+    }
+
+    /// The name of the definition that a marked one returns to.
+    fn name_returned(&self, alloc: Global, place: usize) -> Result<TokenKind, NoMemory>
+        requires known { IsKnown self.now }
+        requires place { place < length (names_view self.now).defined }
+        requires marked { is_marked self.now.returns.items place ≡ true }
+        ensures { IfOk result (λ kind. kind ≡ kind_of_name self.now.model (names_view self.now) (name_at (names_view self.now).defined place)) }
+    {
+        match self.returns[place] {
+            Some(end) => Ok(TokenKind::Name {
+                text: Sequence::from_slice(alloc, self.name_at(end))?,
+            }),
+            None => unreachable!(),
+        }
+    }
+
+    /// What a defined name is whose chain may come back.
+    fn returned(
+        &mut self,
+        alloc: Global,
+        table: &[Row],
+        first: usize,
+    ) -> Result<TokenKind, NoMemory>
+        requires table { rows table.now ≡ words }
+        requires known { IsKnown self.old }
+        requires place { first < length (names_view self.old).defined }
+        requires no_word { IsNoWord (name_at (names_view self.old).defined first) }
+        ensures kind { IfOk result (λ kind. kind ≡ kind_of_name self.old.model (names_view self.old) (name_at (names_view self.old).defined first)) }
+        ensures names { names_view self.new ≡ names_view self.old }
+        ensures known { IsKnown self.new }
+        ensures model { self.new.model ≡ self.old.model }
+    {
+        match self.walk(alloc, table, first)? {
+            Chain::Ends(kind) => Ok(kind),
+            Chain::Joins { over, at } => {
+                self.mark_leads(over.as_slice(), at);
+                self.name_returned(alloc, first)
+            }
+            Chain::Circles { over, at, from } => {
+                self.mark_circle(over.as_slice(), at, from);
+                self.mark_leads(over.as_slice(), at);
+                self.name_returned(alloc, first)
+            }
+        }
     }
 
     /// What a name is after all its replacements (C11 6.10.3.4).
@@ -263,7 +399,7 @@ impl Names {
         };
         match self.end_from(alloc, table, first)? {
             Some(kind) => Ok(kind),
-            None => self.replaced_in_turn(alloc, table, name),
+            None => self.returned(alloc, table, first),
         }
     }
 
@@ -343,6 +479,8 @@ impl Names {
     fn mark(&mut self, header: Header)
         ensures names { names_view self.new ≡ include_header (names_view self.old) (header_view header) }
         ensures ahead { self.new.ahead ≡ self.old.ahead }
+        ensures returns { self.new.returns ≡ self.old.returns }
+        ensures numbers { self.new.numbers ≡ self.old.numbers }
         ensures model { self.new.model ≡ self.old.model }
     {
         match header {
@@ -393,8 +531,11 @@ impl Names {
         let key = Vec::from_slice(alloc, name)?;
         let value = Vec::from_slice(alloc, text)?;
         let place = self.defined.len();
+        let number = number_of(self.model, text);
         self.defined.insert(key, value)?;
         self.ahead.push(place)?;
+        self.returns.push(None)?;
+        self.numbers.push(number)?;
         Ok(true)
     }
 }

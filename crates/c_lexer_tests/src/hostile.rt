@@ -148,3 +148,16 @@ fn most_tokens(rt: HostRuntime) -> Result<(), Fail> {
     }
     Ok(())
 }
+
+/// A constant of 400,000 digits, and a name that stands for it 200,000 times. A text whose uses read the
+/// constant anew would take 8 * 10^10 steps.
+#[test]
+fn long_constant(rt: HostRuntime) -> Result<(), Fail> {
+    let mut text = Vec::new(rt.alloc());
+    text.extend_from_slice(b"#define A ")?;
+    text.extend_from_slice(&repeated(rt.alloc(), b"0", 400_000)?)?;
+    text.push(b'\n')?;
+    text.extend_from_slice(&repeated(rt.alloc(), b"A ", 400_000)?)?;
+    assert_eq!(rt; answer_of(rt.alloc(), &text)?, Answer::Tokens(200_000));
+    Ok(())
+}

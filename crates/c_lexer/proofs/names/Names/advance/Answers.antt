@@ -1,5 +1,8 @@
-use Rattle.c_lexer.specs.Chains.{IsAhead}
+use Rattle.std.proofs.Common.{◌<◌, length, subst}
+use Rattle.c_lexer.specs.Chains.{IsAhead, IsNoWord, Edge, name_at}
+use Rattle.c_lexer.specs.Nexts.{IsStep}
 use Rattle.c_lexer.specs.Tables.{names_view}
+use Rattle.c_lexer.proofs.Chains.{reaches_edge}
 use Rattle.c_lexer.proofs.Links.{ahead_twice}
 use Rattle.c_lexer.proofs.names.Names.advance.Goals as goal
 
@@ -14,3 +17,21 @@ returns-then-ahead-at-clause-next c =
     ahead_twice (names_view c.args.self.now).defined c.args.self.now.ahead.items c.args.at c.index-ahead.result.now c.index-after.result.now
     c.requires.known.linked c.requires.place c.index-ahead.ensures c.index-after.ensures in
     (link.within, link.no_word c.requires.no_word, link.reaches c.requires.no_word)
+
+pub link-requires-in-Goes-clause-ahead : goal.link-requires-in-Goes-clause-ahead
+link-requires-in-Goes-clause-ahead c =
+    let names = names_view c.args.self.now in
+    let D = names.defined in
+    let place = c.in-Goes.place in
+    let step : (place < length D) × IsNoWord (name_at D place) × Edge D (name_at D c.args.at) (name_at D place) =
+    subst (IsStep c.args.self.now.model names (name_at D c.args.at)) c.in-Goes.is c.in_ok-place.ensures in
+    record { within = step.0; reaches = λ _. reaches_edge D (name_at D c.args.at) (name_at D place) step.2; no_word = λ _. step.1 }
+
+pub returns-in-Goes-clause-next : goal.returns-in-Goes-clause-next
+returns-in-Goes-clause-next c =
+    let names = names_view c.args.self.now in
+    let D = names.defined in
+    let place = c.in-Goes.place in
+    let step : (place < length D) × IsNoWord (name_at D place) × Edge D (name_at D c.args.at) (name_at D place) =
+    subst (IsStep c.args.self.now.model names (name_at D c.args.at)) c.in-Goes.is c.in_ok-place.ensures in
+    (step.0, step.1, reaches_edge D (name_at D c.args.at) (name_at D place) step.2)

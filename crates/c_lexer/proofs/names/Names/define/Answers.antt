@@ -1,13 +1,18 @@
-use Rattle.std.proofs.Common.{◌≡◌, false, [], ◌∷◌, ◌++◌, length, Some, None, ◌∙◌, sym, ap, subst}
+use Rattle.std.proofs.Common.{◌≡◌, false, [], ◌∷◌, ◌++◌, length, Some, None, map, ◌∙◌, sym, ap, subst}
 use Rattle.std.specs.Option.{is_some}
 use Rattle.c_model.specs.Words.{lookup}
+use Rattle.c_model.specs.Constants.{number_of}
 use Rattle.c_model.specs.Reading.{given}
+use Rattle.c_scan.specs.Numbers.{number_view}
 use Rattle.c_scan.specs.Rows.{rows}
 use Rattle.c_lexer.specs.Chains.{IsLinked}
+use Rattle.c_lexer.specs.Circles.{IsMarked}
 use Rattle.c_lexer.specs.Tables.{names_view, definitions}
 use Rattle.c_lexer.proofs.Places.{definitions_insert, definitions_length}
 use Rattle.c_lexer.proofs.Chains.{linked_push}
 use Rattle.c_lexer.proofs.Links.{defined_new}
+use Rattle.c_lexer.proofs.Marks.{marked_push}
+use Rattle.c_lexer.proofs.Known.{numbered_push}
 use Rattle.c_lexer.proofs.names.Names.define.Goals as goal
 
 pub returns-clause-told : goal.returns-clause-told
@@ -31,6 +36,7 @@ returns-clause-told c =
 pub returns-clause-known : goal.returns-clause-known
 returns-clause-known c =
     let names = names_view c.args.self.now in
+    let model = c.args.self.now.model in
     let name = c.args.name.now in
     let text = c.args.text.now in
     let key = c.in_ok-key.key in
@@ -49,4 +55,9 @@ returns-clause-known c =
       given_are = c.requires.given_are;
       linked = subst (λ E. IsLinked E c.push.new.self.items) (sym entries)
           (subst (IsLinked (names.defined ++ (name, text) ∷ [])) (sym pushed) (linked_push names.defined c.args.self.now.ahead.items name text c.requires.linked new));
+      marked = subst (λ E. IsMarked E c.push-2.new.self.items) (sym entries)
+          (subst (IsMarked (names.defined ++ (name, text) ∷ [])) (sym c.in_ok-push-2.ensures.items) (marked_push names.defined c.args.self.now.returns.items (name, text) c.requires.marked));
+      numbered = ap (map number_view) c.in_ok-push-3.ensures.items
+          ∙ numbered_push model names.defined c.args.self.now.numbers.items c.requires.numbered name text c.number_of-number.result c.number_of-number.ensures
+          ∙ ap (map (λ row. number_of model row.1)) (sym entries);
     }

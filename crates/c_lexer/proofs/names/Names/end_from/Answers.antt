@@ -4,7 +4,7 @@ use Rattle.c_lexer.specs.Nexts.{IsNext}
 use Rattle.c_lexer.specs.Tables.{IsKnown, names_view}
 use Rattle.c_lexer.proofs.Chains.{reaches_becomes, reaches_join}
 use Rattle.c_lexer.proofs.names.Names.end_from.Goals as goal
-use Rattle.c_lexer.proofs.names.Names.end_from.Goals.{else-loop-turn-test, then-loop-turn-test+in_ok-insert+else-not-branch+in_ok-place+in-Goes+else-turn-turn-end}
+use Rattle.c_lexer.proofs.names.Names.end_from.Goals.{else-loop-turn-test, then-loop-turn-test+else-is_some+in_ok-insert+else-not-branch+in_ok-place+in-Goes+else-turn-turn-end}
 
 pub returns-in-Ends-clause-kind : goal.returns-in-Ends-clause-kind
 returns-in-Ends-clause-kind c =
@@ -40,19 +40,19 @@ pub returns-clause-names : goal.returns-clause-names
 returns-clause-names c =
     elim c.loop-turn-test.branch [
       | else-loop-turn-test w ↦ ap names_view w.self-is ∙ c.loop-turn.invariant.3
-      | then-loop-turn-test+in_ok-insert+else-not-branch+in_ok-place+in-Goes+else-turn-turn-end w ↦ ap names_view w.self-is ∙ (w.advance.ensures.names ∙ c.loop-turn.invariant.3)
+      | then-loop-turn-test+else-is_some+in_ok-insert+else-not-branch+in_ok-place+in-Goes+else-turn-turn-end w ↦ ap names_view w.self-is ∙ (w.advance.ensures.names ∙ c.loop-turn.invariant.3)
     ]
 
 pub returns-clause-known : goal.returns-clause-known
 returns-clause-known c =
     elim c.loop-turn-test.branch [
       | else-loop-turn-test w ↦ subst IsKnown (sym w.self-is) c.loop-turn.invariant.4
-      | then-loop-turn-test+in_ok-insert+else-not-branch+in_ok-place+in-Goes+else-turn-turn-end w ↦ subst IsKnown (sym w.self-is) w.advance.ensures.known
+      | then-loop-turn-test+else-is_some+in_ok-insert+else-not-branch+in_ok-place+in-Goes+else-turn-turn-end w ↦ subst IsKnown (sym w.self-is) w.advance.ensures.known
     ]
 
 pub returns-clause-model : goal.returns-clause-model
 returns-clause-model c =
     elim c.loop-turn-test.branch [
       | else-loop-turn-test w ↦ ap (λ s. s.model) w.self-is ∙ c.loop-turn.invariant.5
-      | then-loop-turn-test+in_ok-insert+else-not-branch+in_ok-place+in-Goes+else-turn-turn-end w ↦ ap (λ s. s.model) w.self-is ∙ (w.advance.ensures.model ∙ c.loop-turn.invariant.5)
+      | then-loop-turn-test+else-is_some+in_ok-insert+else-not-branch+in_ok-place+in-Goes+else-turn-turn-end w ↦ ap (λ s. s.model) w.self-is ∙ (w.advance.ensures.model ∙ c.loop-turn.invariant.5)
     ]

@@ -1,9 +1,11 @@
-use Rattle.std.proofs.Common.{◌≡◌, Some, None, ◌∙◌, sym, ap, subst}
+use Rattle.std.proofs.Common.{◌≡◌, rules, Some, None, ◌∙◌, sym, ap, subst}
 use Rattle.c_model.specs.Words.{lookup, words}
+use Rattle.c_model.specs.Constants.{number_of}
 use Rattle.c_model.specs.Reading.{number_kind}
-use Rattle.c_lexer.specs.Chains.{Becomes, IsNoWord, Reaches, name_at}
+use Rattle.c_scan.specs.Numbers.{number_view}
+use Rattle.c_lexer.specs.Chains.{Becomes, IsNoWord, Edge, name_at}
 use Rattle.c_lexer.specs.Tables.{names_view}
-use Rattle.c_lexer.proofs.Chains.{reaches_edge}
+use Rattle.c_lexer.proofs.Known.{number_known, numbers_length}
 use Rattle.c_lexer.proofs.Links.{becomes_number, becomes_word, becomes_given, edge}
 use Rattle.c_lexer.proofs.names.Names.next.Goals as goal
 
@@ -13,7 +15,10 @@ returns-then-begins_digit c =
     let x = name_at names.defined c.args.place in
     let text = c.text_at-text.result.now in
     let defined : lookup names.defined x ≡ Some text = c.requires.known.linked.texts c.args.place c.requires.place ∙ ap (λ t. Some t) (sym c.text_at-text.ensures) in
-    subst (Becomes c.args.self.now.model names x) (sym (c.number_kind.ensures ∙ ap number_kind c.number_of.ensures))
+    let read : number_view c.index.result.now ≡ number_of c.args.self.now.model text =
+    ap number_view c.index.ensures ∙ number_known c.args.self.now.model names.defined c.args.self.now.numbers.items c.requires.known.numbered c.args.place c.index.result.now c.requires.place
+    ∙ ap (number_of c.args.self.now.model) (sym c.text_at-text.ensures) in
+    subst (Becomes c.args.self.now.model names x) (sym (c.number_kind.ensures ∙ ap number_kind read))
     (becomes_number c.args.self.now.model names x text c.requires.no_word defined (sym c.if-begins_digit.ensures))
 
 pub returns-in-Some : goal.returns-in-Some
@@ -34,7 +39,7 @@ returns-in-Some-place_of c =
     let word : lookup words text ≡ None = cc c.in_ok-kind.ensures in
     let step = edge c.args.self.now.model names x text c.requires.no_word defined (sym c.if-begins_digit.ensures) in
     let named : name_at names.defined c.in-Some-place_of.place ≡ text = c.in-Some-place_of.ensures.named in
-    (c.in-Some-place_of.ensures.within, subst IsNoWord (sym named) word, subst (Reaches names.defined x) (sym named) (reaches_edge names.defined x text step))
+    (c.in-Some-place_of.ensures.within, subst IsNoWord (sym named) word, subst (Edge names.defined x) (sym named) step)
 
 pub returns-in_ok-given_or_name-in-None : goal.returns-in_ok-given_or_name-in-None
 returns-in_ok-given_or_name-in-None c =
@@ -46,3 +51,10 @@ returns-in_ok-given_or_name-in-None c =
     let new : lookup names.defined text ≡ None = c.in-None.ensures in
     subst (Becomes c.args.self.now.model names x) (sym c.in_ok-given_or_name-in-None.ensures)
     (becomes_given c.args.self.now.model names x text c.requires.no_word defined (sym c.if-begins_digit.ensures) word new)
+
+pub index-requires : goal.index-requires
+index-requires c =
+    let names = names_view c.args.self.now in
+    let size = numbers_length c.args.self.now.model names.defined c.args.self.now.numbers.items c.requires.known.numbered in
+    let within = c.requires.place in
+    search (rules, size)
