@@ -13,7 +13,8 @@ use Rattle.sat_engine.specs.Trail.{IsSet, IsReason, reason_at}
 use Rattle.sat_engine.specs.Look.{AreInRange, AreFalse}
 use Rattle.sat_engine.specs.Grow.{IsImplied, Grows}
 use Rattle.sat_search.specs.declared.parts.Parts.{Parts}
-use Rattle.sat_search.specs.New.{IsIndexed}
+use Rattle.sat_search.specs.declared.index.Entry.{Entry}
+use Rattle.sat_search.specs.New.{IsIndexed, IsListed}
 use Rattle.sat_search.specs.State.{is_choice, IsState, IsReady}
 use Rattle.sat_search.proofs.States.{IsState-cut, IsState-grow, IsState-advance}
 use Rattle.sat_core.specs.Finding.{IsIdle}
@@ -77,16 +78,16 @@ Conflict-idle p n h lt no_good = record {
 }
 
 -- room for a further variable
-pub IsIndexed-wider : (F lists : List (List ℕ)) → IsIndexed F lists → IsIndexed F (lists ++ [] ∷ [])
+pub IsIndexed-wider : (F : List (List ℕ)) (lists : List (List Entry)) → IsIndexed F lists → IsIndexed F (lists ++ [] ∷ [])
 IsIndexed-wider F lists ix i h =
     let w = ix i h in
-    let k = w.2 in
     elim (cases_lt w.0 (length lists)) [
-      | inl lt ↦ (w.0, w.1, subst (λ (x : List ℕ). Contains x i) (sym (get_or_append_left lists ([] ∷ []) [] w.0 lt)) w.2)
+      | inl lt ↦ (w.0, w.1, subst (λ (x : List Entry). IsListed F x i) (sym (get_or_append_left lists ([] ∷ []) [] w.0 lt)) w.2)
       | inr ge ↦
           let none : get_or lists w.0 [] ≡ [] = get_or_past lists w.0 [] ge in
-          let bad : Contains [] i = subst (λ (x : List ℕ). Contains x i) none w.2 in
-          absurd (omega (arith, bad.1))
+          let bad : IsListed F [] i = subst (λ (x : List Entry). IsListed F x i) none w.2 in
+          let past = bad.1.1 in
+          absurd (omega (arith, past))
     ]
 
 pub unset_wider : (flags : List Bool) → ((m : ℕ) → IsSet flags m → ⊥) → (m : ℕ) → IsSet (flags ++ false ∷ false ∷ []) m → ⊥

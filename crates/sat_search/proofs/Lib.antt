@@ -1,4 +1,5 @@
 pub mod Derivations
+pub mod Sketches
 pub mod Ranks
 pub mod Marks
 pub mod Analyses

@@ -14,8 +14,11 @@ use Rattle.sat_engine.specs.Look.{InRange, AreInRange, AreFalse}
 use Rattle.sat_engine.proofs.Trails.{each_Contains, lit_at-take}
 use Rattle.sat_search.specs.declared.repair.Spot.{Spot}
 use Rattle.sat_search.specs.Analysis.{IsSite, IsLearnt}
-use Rattle.sat_search.specs.New.{IsIndexed}
-use Rattle.sat_search.specs.State.{is_choice, IsState}
+use Rattle.sat_search.specs.declared.index.Entry.{Entry}
+use Rattle.sat_search.specs.Sketch.{IsSketch}
+use Rattle.sat_search.specs.New.{IsEntry, IsIndexed}
+use Rattle.kv_clause.specs.Propagation.{Includes}
+use Rattle.sat_search.specs.State.{is_choice, word, IsState, IsNew}
 use Rattle.sat_search.specs.Choice.{IsLastPlace, IsChoiceAt, NoChoice}
 use Rattle.sat_search.specs.Repair.{IsBack, IsSpot, IsJump}
 use Rattle.sat_search.proofs.States.{Conflict-from, no_free, false_in, IsState-cut, IsSite-from}
@@ -75,27 +78,36 @@ module _ (F : List (List ℕ)) (A : List ℕ) (steps : List Step) (truth : List 
       clash f = cc
 
 -- a clause that was listed under one of its literals
-pub IsIndexed-push : (F lists : List (List ℕ)) (c : List ℕ) (l n : ℕ) → IsIndexed F lists → l < length lists → Contains c l → n ≡ length F → IsIndexed (F ++ c ∷ []) (set lists l (get_or lists l [] ++ n ∷ []))
-IsIndexed-push F lists c l n ix lt has e i h = elim (cases_lt i (length F)) [
+pub IsIndexed-push : (F : List (List ℕ)) (lists : List (List Entry)) (c : List ℕ) (l : ℕ) (n : Entry) → IsIndexed F lists → l < length lists → Contains c l → n.number ≡ length F → IsSketch c n.sketch → IsIndexed (F ++ c ∷ []) (set lists l (get_or lists l [] ++ n ∷ []))
+IsIndexed-push F lists c l n ix lt has e sk i h = elim (cases_lt i (length F)) [
   | inl below ↦
       let w = ix i below in
       let same : clause_at F i ≡ clause_at (F ++ c ∷ []) i = sym (get_or_append_left F (c ∷ []) [] i below) in
-      (w.0, subst (λ (x : List ℕ). Contains x w.0) same w.1, kept w.0 i w.2)
+      let here : IsEntry F i w.2.0 = w.2.2 in
+      let there : IsEntry (F ++ c ∷ []) i w.2.0 = record {
+        number = here.number;
+        sketch = subst (λ (x : List ℕ). IsSketch x w.2.0.sketch) same here.sketch;
+      } in
+      (w.0, subst (λ (x : List ℕ). Contains x w.0) same w.1, (w.2.0, kept w.0 w.2.0 w.2.1, there))
   | inr above ↦
       let len = length-append F (c ∷ []) in
       let same : length F ≡ i = omega (arith, len, h) in
-      let here : c ≡ clause_at (F ++ c ∷ []) i = sym (get_or_push F c [] i same) in (
+      let here : c ≡ clause_at (F ++ c ∷ []) i = sym (get_or_push F c [] i same) in
+      let entry : IsEntry (F ++ c ∷ []) i n = record {
+        number = e ∙ same;
+        sketch = subst (λ (x : List ℕ). IsSketch x n.sketch) here sk;
+      } in (
         l,
         subst (λ (x : List ℕ). Contains x l) here has,
-        subst (λ (x : List ℕ). Contains x i) (sym (get_or-set_same lists l (get_or lists l [] ++ n ∷ []) [] lt)) (subst (λ (x : ℕ). Contains (get_or lists l [] ++ n ∷ []) x) (e ∙ same) (Contains-push (get_or lists l []) n)),
+        (n, subst (λ (x : List Entry). Contains x n) (sym (get_or-set_same lists l (get_or lists l [] ++ n ∷ []) [] lt)) (Contains-push (get_or lists l []) n), entry),
       )
 ]
   where
-    kept : (m i : ℕ) → Contains (get_or lists m []) i → Contains (get_or (set lists l (get_or lists l [] ++ n ∷ [])) m []) i
+    kept : (m : ℕ) (i : Entry) → Contains (get_or lists m []) i → Contains (get_or (set lists l (get_or lists l [] ++ n ∷ [])) m []) i
     kept m i w = elim (cases_eq m l) [
       | inl e ↦ subst (λ (x : ℕ). Contains (get_or (set lists l (get_or lists l [] ++ n ∷ [])) x []) i) (sym e)
-          (subst (λ (x : List ℕ). Contains x i) (sym (get_or-set_same lists l (get_or lists l [] ++ n ∷ []) [] lt)) (Contains-append_left (get_or lists l []) (n ∷ []) i (subst (λ (x : ℕ). Contains (get_or lists x []) i) e w)))
-      | inr ne ↦ subst (λ (x : List ℕ). Contains x i) (sym (get_or-set_other lists l m (get_or lists l [] ++ n ∷ []) [] ne)) w
+          (subst (λ (x : List Entry). Contains x i) (sym (get_or-set_same lists l (get_or lists l [] ++ n ∷ []) [] lt)) (Contains-append_left (get_or lists l []) (n ∷ []) i (subst (λ (x : ℕ). Contains (get_or lists x []) i) e w)))
+      | inr ne ↦ subst (λ (x : List Entry). Contains x i) (sym (get_or-set_other lists l m (get_or lists l [] ++ n ∷ []) [] ne)) w
     ]
 
 pub IsBack-from : (steps : List Step) (place here : List ℕ) (start : ℕ) (c : List ℕ) (last : Option ℕ) (from to : ℕ) → 0 < length c → start ≤ length steps → place ≡ here

@@ -1,5 +1,6 @@
 pub mod Mark
 pub mod Analysis
+pub mod Sketch
 pub mod New
 pub mod Rank
 pub mod State

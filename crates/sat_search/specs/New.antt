@@ -1,10 +1,30 @@
-use Rattle.std.specs.Prelude.{ℕ, ◌<◌, List, [], length, slice_index_or, Option, None, Some}
+use Rattle.std.specs.Prelude.{ℕ, ◌≡◌, ◌<◌, List, [], length, slice_index_or, Bool, Option, None, Some}
 use Rattle.std.specs.List.{Contains}
+use Rattle.sat_engine.specs.Trail.{IsSet}
+use Rattle.sat_search.specs.Sketch.{IsSketch}
+use Rattle.sat_search.specs.declared.index.Entry.{Entry}
 use Rattle.kv_clause.specs.Propagation.{clause_at, Includes}
 
+-- the entry has a clause's number and its sketch
+pub record IsEntry (F : List (List ℕ)) (i : ℕ) (e : Entry) : Type 0 where
+  pub number : e.number ≡ i
+  pub sketch : IsSketch (clause_at F i) e.sketch
+
+-- a list has an entry of the clause
+abbrev pub IsListed : List (List ℕ) → List Entry → ℕ → Type 0
+IsListed F entries i = (e : Entry) × Contains entries e × IsEntry F i e
+
 -- each clause is listed under one of its literals
-abbrev pub IsIndexed : List (List ℕ) → List (List ℕ) → Type 0
-IsIndexed F lists = (i : ℕ) → i < length F → (l : ℕ) × Contains (clause_at F i) l × Contains (slice_index_or lists l []) i
+abbrev pub IsIndexed : List (List ℕ) → List (List Entry) → Type 0
+IsIndexed F lists = (i : ℕ) → i < length F → (l : ℕ) × Contains (clause_at F i) l × IsListed F (slice_index_or lists l []) i
+
+-- the clause of the entry, where it is a clause's, has a literal that isn't flagged
+abbrev pub IsPassed : List (List ℕ) → List Bool → Entry → Type 0
+IsPassed F flags e = (i : ℕ) → i < length F → IsEntry F i e → ((m : ℕ) → Contains (clause_at F i) m → IsSet flags m) → ⊥
+
+-- no clause that is listed has all its literals flagged
+abbrev pub NoneFlagged : List (List ℕ) → List Entry → List Bool → Type 0
+NoneFlagged F entries flags = (i : ℕ) → i < length F → IsListed F entries i → ((m : ℕ) → Contains (clause_at F i) m → IsSet flags m) → ⊥
 
 -- a clause of F that c contains, or none
 abbrev pub IsEarlier : List (List ℕ) → List ℕ → Option ℕ → Type 0

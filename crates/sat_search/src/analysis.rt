@@ -36,6 +36,7 @@ fn resolve(
     marks[(step.lit / 2) as usize] = false;
     match step.reason {
         Reason::Clause(n) => {
+            guide.used(n);
             mark_all(
                 guide,
                 store.get(n as usize),
@@ -103,6 +104,7 @@ pub fn analyze(
 {
     let mut low = Vec::new(alloc);
     let skip = trail.steps[top].lit;
+    guide.used(conflict);
     mark_all(
         guide,
         store.get(conflict as usize),

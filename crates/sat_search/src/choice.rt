@@ -73,17 +73,22 @@ pub fn next_choice(trail: &Trail, from: usize) -> usize
     at
 }
 
-/// The clause's last literal, and of the others the one of the greatest place.
-pub fn pair(clause: &[u32], place: &[usize]) -> Option<(u32, u32)> {
-    let (last, others) = clause.split_last()?;
+/// The literal of the greatest place, but for one.
+pub fn latest(clause: &[u32], but: u32, place: &[usize]) -> Option<u32> {
     let mut found: Option<u32> = None;
     let mut greatest = 0;
-    for lit in others {
+    for lit in clause {
         let here = place.get((*lit / 2) as usize).copied().unwrap_or(0);
-        if found.is_none() || here > greatest {
+        if *lit != but && (found.is_none() || here > greatest) {
             found = Some(*lit);
             greatest = here;
         }
     }
-    Some((*last, found?))
+    found
+}
+
+/// The clause's last literal, and of the others the one of the greatest place.
+pub fn pair(clause: &[u32], place: &[usize]) -> Option<(u32, u32)> {
+    let last = *clause.last()?;
+    Some((last, latest(clause, last, place)?))
 }

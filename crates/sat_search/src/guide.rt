@@ -1,18 +1,19 @@
 use kv_base::NoMemory;
-use sat_engine::Trail;
+use sat_engine::{Trail, Watches};
 use sat_order::{Order, luby};
 use std::alloc::Global;
 
 /// How many clauses the shortest run learns.
 const RUN: u64 = 100;
 
-/// After how many learnt clauses some are forgotten, and how many more it takes each further time.
-const FORGET: u64 = 2000;
+/// After how many conflicts the number of clauses that may be forgotten is first let grow.
+const GROW: u64 = 100;
 
-const FORGET_MORE: u64 = 300;
+/// How many shares a use counts for.
+const SHARES: u32 = 16;
 
-/// The levels of a clause that is forgotten.
-const FORGOTTEN: u32 = u32::MAX;
+/// The least limit.
+const LEAST: usize = 100;
 
 /// A clause of so few levels is never forgotten.
 const FEW: u32 = 2;
@@ -31,13 +32,16 @@ pub struct Guide {
     choices: Vec<usize>,
     // when a conflict was last seen at each level
     seen: Vec<u64>,
-    // of each clause its levels, 0 where it isn't to be forgotten, and `FORGOTTEN` where it is
-    levels: Vec<u32>,
+    // the clauses that may be forgotten
+    learnt: Vec<u32>,
+    // of each clause how often it was used, where a use counts for half after each time that clauses are forgotten
+    uses: Vec<u32>,
+    // at how many of them some are forgotten
+    limit: usize,
     conflicts: u64,
-    // after how many conflicts clauses are forgotten next
+    // after how many conflicts the limit is let grow next, and how many more it takes then
     due: u64,
-    // how many times clauses were forgotten
-    times: u64,
+    more: u64,
 }
 
 impl Guide {
@@ -50,10 +54,12 @@ impl Guide {
             left: RUN,
             choices: Vec::new(alloc),
             seen: Vec::new(alloc),
-            levels: Vec::new(alloc),
+            learnt: Vec::new(alloc),
+            uses: Vec::new(alloc),
+            limit: 0,
             conflicts: 0,
-            due: FORGET,
-            times: 0,
+            due: GROW,
+            more: GROW,
         }
     }
 
@@ -110,10 +116,21 @@ impl Guide {
         }
     }
 
+    // Lets the limit grow by a tenth, where that is due.
+    fn grow_limit(&mut self) {
+        if self.conflicts < self.due {
+            return;
+        }
+        self.more = self.more.saturating_add(self.more / 2);
+        self.due = self.due.saturating_add(self.more);
+        self.limit = self.limit.saturating_add(self.limit / 10);
+    }
+
     /// Takes note that a clause was learnt, and says whether to begin anew.
     pub fn learnt(&mut self) -> bool {
         self.order.decay();
         self.conflicts = self.conflicts.saturating_add(1);
+        self.grow_limit();
         self.left = self.left.saturating_sub(1);
         if self.left > 0 {
             return false;
@@ -188,78 +205,91 @@ impl Guide {
         Ok(many)
     }
 
-    /// Takes note of a learnt clause and its levels; those before it that it has no note of are kept.
+    /// Takes note of a learnt clause and its levels.
     pub fn rate(&mut self, number: u32, levels: u32) -> Result<(), NoMemory> {
-        for _clause in self.levels.len()..number as usize {
-            self.levels.push(0)?;
+        if self.limit == 0 {
+            self.limit = (number as usize / 3).max(LEAST);
         }
-        self.levels.push(levels)?;
+        for _clause in self.uses.len()..=number as usize {
+            self.uses.push(1)?;
+        }
+        if levels > FEW {
+            self.learnt.push(number)?;
+        }
         Ok(())
     }
 
-    /// Takes note that a clause is of use.
-    pub fn use_again(&mut self, number: u32) {
-        if let Some(levels) = self.levels.get_mut(number as usize) {
-            if *levels > FEW {
-                *levels = FEW + 1;
-            }
+    /// Takes note that a forgotten clause is watched again.
+    pub fn recall(&mut self, number: u32) -> Result<(), NoMemory> {
+        self.learnt.push(number)?;
+        self.used(number);
+        Ok(())
+    }
+
+    /// Takes note that a clause had a part in a conflict.
+    pub fn used(&mut self, number: u32) {
+        if let Some(uses) = self.uses.get_mut(number as usize) {
+            *uses = uses.saturating_add(SHARES);
         }
     }
 
-    /// Whether a clause is to be watched.
-    pub fn keeps(&self, number: usize) -> bool {
-        self.levels.get(number).copied().unwrap_or(0) != FORGOTTEN
+    fn uses_of(&self, number: u32) -> usize {
+        match self.uses.get(number as usize) {
+            Some(uses) => *uses as usize,
+            None => 0,
+        }
     }
 
-    // How many clauses have each number of levels, up to 63 and more.
-    fn counts(&self) -> [u64; 64] {
-        let mut counts = [0u64; 64];
-        for levels in self.levels.as_slice() {
-            if *levels == FORGOTTEN || *levels <= FEW {
-                continue;
-            }
-            let at = (*levels as usize).min(63);
-            if let Some(count) = counts.get_mut(at) {
+    // How many clauses were used so often, up to 1023 and more.
+    fn counts(&self) -> [usize; 1024] {
+        let mut counts = [0usize; 1024];
+        for number in self.learnt.as_slice() {
+            if let Some(count) = counts.get_mut(self.uses_of(*number).min(1023)) {
                 *count = count.saturating_add(1);
             }
         }
         counts
     }
 
-    // So many levels that about half of the clauses that may be forgotten have more.
-    fn bound(&self) -> u32 {
+    // So many uses that half of the clauses have no more.
+    fn bound(&self) -> usize {
+        let half = self.learnt.len() / 2;
         let counts = self.counts();
-        let mut all = 0u64;
-        for count in counts {
-            all = all.saturating_add(count);
-        }
-        let mut below = 0u64;
-        let mut bound = 0u32;
-        for count in counts {
-            if below >= all / 2 {
-                break;
+        let mut below = 0usize;
+        for (uses, count) in counts.iter().enumerate() {
+            below = below.saturating_add(*count);
+            if below >= half {
+                return uses;
             }
-            below = below.saturating_add(count);
-            bound = bound.saturating_add(1);
         }
-        bound
+        0
     }
 
     /// Whether some clauses are to be forgotten now.
     pub fn is_due(&self) -> bool {
-        self.conflicts >= self.due
+        self.learnt.len() >= self.limit
     }
 
-    /// Chooses the clauses that are forgotten: those of more levels than half of the others have.
-    pub fn forget(&mut self) {
+    /// Forgets half of the learnt clauses, those that were used least.
+    pub fn forget(&mut self, watches: &mut Watches) {
         let bound = self.bound();
-        for levels in self.levels.iter_mut() {
-            if *levels > FEW && *levels >= bound {
-                *levels = FORGOTTEN;
+        let mut left = self.learnt.len() / 2;
+        let mut kept = 0usize;
+        for at in 0..self.learnt.len() {
+            let number = self.learnt.get(at).copied().unwrap_or(0);
+            if left > 0 && self.uses_of(number) <= bound {
+                left -= 1;
+                watches.forget(number);
+                continue;
             }
+            if let Some(uses) = self.uses.get_mut(number as usize) {
+                *uses /= 2;
+            }
+            if let Some(place) = self.learnt.get_mut(kept) {
+                *place = number;
+            }
+            kept = kept.saturating_add(1);
         }
-        self.times = self.times.saturating_add(1);
-        let more = FORGET.saturating_add(self.times.saturating_mul(FORGET_MORE));
-        self.due = self.conflicts.saturating_add(more);
+        self.learnt.truncate(kept);
     }
 }

@@ -4,18 +4,37 @@ use kv_base::NoMemory;
 use std::alloc::Global;
 use std::marker::Model;
 
-/// For each literal a growing list of numbers.
+/// A listed clause: its number, and a word in which each of its literals unsets a bit.
+#[derive(Clone, Copy, Debug)]
+pub struct Entry {
+    pub number: u32,
+    pub sketch: u64,
+}
+
+/// For each literal a growing list of clauses. Contracts see the lists.
 #[derive(Drop)]
 pub struct Index {
-    lists: Vec<Vec<u32>>,
+    lists: Vec<Vec<Entry>>,
+    // how often each literal stood in a clause
+    counts: Vec<u64>,
+}
+
+// Counts each literal of a clause.
+fn count_each(counts: &mut Vec<u64>, clause: &[u32]) {
+    for lit in clause {
+        if let Some(count) = counts.get_mut(*lit as usize) {
+            *count = count.saturating_add(1);
+        }
+    }
 }
 
 impl Model for Index {
     ghost use Rattle.std.specs.Prelude.{ℕ, List, map};
     ghost use Rattle.std.specs.declared.vec.Vec.{Vec};
     ghost use Rattle.std.specs.declared.alloc.Global.{Global};
+    ghost use Rattle.sat_search.specs.declared.index.Entry.{Entry};
 
-    ghost Value = { List (List ℕ) };
+    ghost Value = { List (List Entry) };
 
     ghost view = { λ s. map (λ v. v.items) s.lists.items };
 }
@@ -26,28 +45,42 @@ impl Index {
     {
         Index {
             lists: Vec::new(alloc),
+            counts: Vec::new(alloc),
         }
     }
 
     pub fn grow(&mut self, alloc: Global) -> Result<(), NoMemory>
         ensures { OnOk result (self.new ≡ self.old ++ [] ∷ []) }
     {
+        self.counts.push(0)?;
         self.lists.push(Vec::new(alloc))?;
         Ok(())
     }
 
-    pub fn get(&self, lit: usize) -> &[u32]
+    pub fn get(&self, lit: usize) -> &[Entry]
         requires { lit < length self.now }
         ensures { result.now ≡ slice_index_or self.now lit [] }
     {
         self.lists[lit].as_slice()
     }
 
-    pub fn put(&mut self, lit: usize, number: u32) -> Result<(), NoMemory>
+    pub fn put(&mut self, lit: usize, entry: Entry) -> Result<(), NoMemory>
         requires { lit < length self.old }
-        ensures { OnOk result (self.new ≡ slice_set self.old lit (slice_index_or self.old lit [] ++ number ∷ [])) }
+        ensures { OnOk result (self.new ≡ slice_set self.old lit (slice_index_or self.old lit [] ++ entry ∷ [])) }
     {
-        self.lists[lit].push(number)?;
+        self.lists[lit].push(entry)?;
         Ok(())
+    }
+
+    /// Counts the literals of a clause.
+    pub fn count(&mut self, clause: &[u32])
+        ensures { self.new ≡ self.old }
+    {
+        count_each(&mut self.counts, clause);
+    }
+
+    /// How often a literal stood in a clause that was counted.
+    pub fn count_of(&self, lit: u32) -> u64 {
+        self.counts.get(lit as usize).copied().unwrap_or(0)
     }
 }

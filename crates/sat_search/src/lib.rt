@@ -8,7 +8,6 @@
 mod analysis;
 mod choice;
 mod cuts;
-mod forget;
 mod guide;
 mod index;
 mod mark;
@@ -17,6 +16,7 @@ mod once;
 mod parts;
 mod repair;
 mod turn;
+mod words;
 
 pub use cuts::rewind;
 pub use guide::Guide;

@@ -3,10 +3,12 @@ ghost use Rattle.std.specs.List.{Contains};
 ghost use Rattle.kv_clause.specs.Propagation.{clause_at};
 ghost use Rattle.sat_engine.specs.Trail.{IsSet};
 ghost use Rattle.sat_engine.specs.Look.{InRange, AreInRange};
-ghost use Rattle.sat_search.specs.New.{IsIndexed, IsEarlier};
+ghost use Rattle.sat_search.specs.Sketch.{all_set, Lacks, IsSketch, IsWithin};
+ghost use Rattle.sat_search.specs.New.{IsIndexed, IsEarlier, IsPassed, NoneFlagged};
 ghost use Rattle.kv_clause.specs.Propagation.{Includes};
 
-use crate::index::Index;
+use crate::index::{Entry, Index};
+use crate::words::sketch;
 use sat_engine::Store;
 
 /// Whether each literal of the clause is flagged.
@@ -42,33 +44,61 @@ fn unflag(clause: &[u32], flags: &mut [bool])
     }
 }
 
-/// A clause all of whose literals are flagged, among those under one literal.
-fn among(store: &Store, numbers: &[u32], flags: &[bool]) -> Option<u32>
+// Whether each bit that is unset in the one word is unset in the other.
+fn is_within(one: u64, other: u64) -> bool
+    ensures { result ≡ false → IsWithin one other → ⊥ }
+{
+    one & other == other
+}
+
+/// Whether each literal of a listed clause is flagged. The bits of flagged literals are unset in the sketch.
+fn is_found(store: &Store, entry: Entry, sketch: u64, flags: &[bool]) -> bool
     requires range { AreInRange store.now (length flags.now) }
+    requires sketch { IsWithin all_set sketch }
+    requires flagged { (m : ℕ) → IsSet flags.now m → Lacks sketch m }
+    ensures yes { result ≡ true → (entry.number < length store.now) × ((m : ℕ) → Contains (clause_at store.now entry.number) m → IsSet flags.now m) }
+    ensures no { result ≡ false → IsPassed store.now flags.now entry }
+{
+    if !is_within(entry.sketch, sketch) {
+        return false;
+    }
+    if entry.number as usize >= store.len() {
+        return false;
+    }
+    is_flagged(store.get(entry.number as usize), flags)
+}
+
+/// A clause all of whose literals are flagged, among those under one literal.
+fn among(store: &Store, entries: &[Entry], sketch: u64, flags: &[bool]) -> Option<u32>
+    requires range { AreInRange store.now (length flags.now) }
+    requires sketch { IsWithin all_set sketch }
+    requires flagged { (m : ℕ) → IsSet flags.now m → Lacks sketch m }
     ensures { MatchOption result
-        ((i : ℕ) → Contains numbers.now i → i < length store.now → ((m : ℕ) → Contains (clause_at store.now i) m → IsSet flags.now m) → ⊥)
+        (NoneFlagged store.now entries.now flags.now)
         (λ i. (i < length store.now) × ((m : ℕ) → Contains (clause_at store.now i) m → IsSet flags.now m)) }
 {
-    for i in numbers {
-        if (*i as usize) < store.len() && is_flagged(store.get(*i as usize), flags) {
-            return Some(*i);
+    for entry in entries {
+        let entry = *entry;
+        if is_found(store, entry, sketch, flags) {
+            return Some(entry.number);
         }
     }
     None
 }
 
 /// A clause of the store that the given one contains.
-fn seek(store: &Store, index: &Index, clause: &[u32], flags: &[bool]) -> Option<u32>
+fn seek(store: &Store, index: &Index, clause: &[u32], sketch: u64, flags: &[bool]) -> Option<u32>
     requires range { AreInRange store.now (length flags.now) }
     requires clause { InRange clause.now (length flags.now) }
     requires lists { length index.now ≡ length flags.now }
     requires indexed { IsIndexed store.now index.now }
     requires flagged { (m : ℕ) → Contains clause.now m → IsSet flags.now m }
     requires only { (m : ℕ) → IsSet flags.now m → Contains clause.now m }
+    requires sketch { IsSketch clause.now sketch }
     ensures { IsEarlier store.now clause.now result }
 {
     for m in clause {
-        match among(store, index.get(*m as usize), flags) {
+        match among(store, index.get(*m as usize), sketch, flags) {
             Some(i) => return Some(i),
             None => {}
         }
@@ -87,7 +117,7 @@ pub fn earlier(store: &Store, index: &Index, clause: &[u32], flags: &mut [bool])
     ensures unset { (m : ℕ) → IsSet flags.new m → ⊥ }
 {
     flag(clause, flags);
-    let found = seek(store, index, clause, flags);
+    let found = seek(store, index, clause, sketch(clause), flags);
     unflag(clause, flags);
     found
 }

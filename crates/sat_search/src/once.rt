@@ -4,12 +4,13 @@ ghost use Rattle.sat_engine.specs.Look.{AreFalse};
 ghost use Rattle.sat_search.specs.State.{IsReady};
 ghost use Rattle.sat_search.specs.Once.{OnceSays, IsDone};
 
-use crate::choice::pair;
+use crate::choice::{latest, pair};
+use crate::guide::Guide;
 use crate::newness::earlier;
 use crate::parts::Parts;
 use crate::repair::{find_spot, learn, record_clause};
 use kv_base::NoMemory;
-use sat_engine::{Reason, Seen, look_at};
+use sat_engine::{Reason, Seen, Store, Watches, look_at};
 use std::alloc::Global;
 
 /// What one look at a false clause led to.
@@ -23,6 +24,27 @@ pub enum Once {
     Flipped,
     /// a further clause is false
     Again(u32),
+}
+
+// Has a clause that was forgotten watch a literal and the last of the others to be set.
+fn recall(
+    store: &Store,
+    place: &[usize],
+    watches: &mut Watches,
+    guide: &mut Guide,
+    number: u32,
+    lit: u32,
+) -> Result<(), NoMemory>
+    requires { number < length store.now }
+{
+    if watches.watched(number).is_some() {
+        return Ok(());
+    }
+    let Some(other) = latest(store.get(number as usize), lit, place) else {
+        return Ok(());
+    };
+    watches.add(number, lit, other)?;
+    guide.recall(number)
 }
 
 pub fn repair_once(
@@ -69,8 +91,15 @@ pub fn repair_once(
         }
         Some(number) => match look_at(parts.store.get(number as usize), &parts.trail.truth, lit) {
             Seen::Unit => {
+                recall(
+                    &parts.store,
+                    &parts.trail.place,
+                    &mut parts.watches,
+                    &mut parts.guide,
+                    number,
+                    lit,
+                )?;
                 parts.trail.push(lit, Reason::Clause(number))?;
-                parts.guide.use_again(number);
                 Ok(Once::Flipped)
             }
             Seen::False => Ok(Once::Again(number)),

@@ -13,8 +13,9 @@ use crate::analysis::analyze;
 use crate::choice::{last_choice, last_place, next_choice};
 use crate::cuts::rewind;
 use crate::guide::Guide;
-use crate::index::Index;
+use crate::index::{Entry, Index};
 use crate::parts::Parts;
+use crate::words::sketch;
 use kv_base::NoMemory;
 use sat_engine::{Reason, Store, Trail, Watches};
 use std::alloc::Global;
@@ -80,19 +81,18 @@ pub fn find_spot(
     }
 }
 
-/// The place of the literal under which fewest clauses are listed.
-fn rarest(index: &Index, clause: &[u32]) -> usize
+/// The place of the literal that stood least often in clauses so far.
+fn least_common(index: &Index, clause: &[u32]) -> usize
     requires some { 0 < length clause.now }
-    requires range { InRange clause.now (length index.now) }
     ensures { result < length clause.now }
 {
     let mut best = 0;
-    let mut few = usize::MAX;
+    let mut least = u64::MAX;
     for (i, l) in clause.iter().enumerate() {
-        let many = index.get(*l as usize).len();
-        if many < few {
+        let count = index.count_of(*l);
+        if count < least {
             best = i;
-            few = many;
+            least = count;
         }
     }
     best
@@ -117,8 +117,13 @@ pub fn record_clause(
     if number == u32::MAX {
         return Err(NoMemory);
     }
-    let under = rarest(index, clause);
-    index.put(clause[under] as usize, number)?;
+    index.count(clause);
+    let under = least_common(index, clause);
+    let entry = Entry {
+        number,
+        sketch: sketch(clause),
+    };
+    index.put(clause[under] as usize, entry)?;
     match watched {
         Some((one, two)) => watches.add(number, one, two)?,
         None => watches.skip()?,

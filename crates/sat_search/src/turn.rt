@@ -9,7 +9,6 @@ ghost use Rattle.sat_search.specs.Turn.{HasTrue, TurnSays};
 
 use crate::choice::next_choice;
 use crate::cuts::rewind;
-use crate::forget::watch_again;
 use crate::guide::Guide;
 use crate::once::{Once, repair};
 use crate::parts::Parts;
@@ -162,19 +161,17 @@ fn tidy(parts: &mut Parts, assumed: &[u32], restart: bool)
     }
 }
 
-// Forgets some learnt clauses, where that is due when the search begins anew.
-fn forget(alloc: Global, parts: &mut Parts, assumed: &[u32], restart: bool) -> Result<(), NoMemory>
-    requires ready { IsReady assumed.now parts.old }
-    ensures ready { OnOk result (IsReady assumed.now parts.new) }
+// Forgets some learnt clauses, where that is due.
+fn forget(parts: &mut Parts, _assumed: &[u32])
+    requires ready { IsReady _assumed.now parts.old }
+    ensures ready { IsReady _assumed.now parts.new }
     ensures store { parts.new.store ≡ parts.old.store }
     ensures trail { parts.new.trail ≡ parts.old.trail }
 {
-    if !restart || !parts.guide.is_due() {
-        return Ok(());
+    if !parts.guide.is_due() {
+        return;
     }
-    let watches = watch_again(alloc, &parts.store, &parts.trail, &mut parts.guide)?;
-    parts.watches = watches;
-    Ok(())
+    parts.guide.forget(&mut parts.watches);
 }
 
 fn mend(alloc: Global, parts: &mut Parts, assumed: &[u32], conflict: u32) -> Result<Turn, NoMemory>
@@ -188,7 +185,7 @@ fn mend(alloc: Global, parts: &mut Parts, assumed: &[u32], conflict: u32) -> Res
         Once::Learnt => {
             let restart = parts.guide.learnt();
             tidy(parts, assumed, restart);
-            forget(alloc, parts, assumed, restart)?;
+            forget(parts, assumed);
             Ok(Turn::Learnt)
         }
         Once::Flipped => Ok(Turn::Moved),

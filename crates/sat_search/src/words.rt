@@ -1,0 +1,20 @@
+ghost use Rattle.std.specs.Prelude.{◌≡◌, ◌%◌, ◌<◌, length};
+ghost use Rattle.sat_search.specs.Sketch.{mask_of, IsSketch};
+
+// A word with one bit unset, which the literal says.
+fn mask(lit: u32) -> u64
+    ensures { result ≡ mask_of lit }
+{
+    u64::MAX ^ (1u64 << (lit % 64))
+}
+
+/// A word in which each literal of the clause unsets a bit.
+pub fn sketch(clause: &[u32]) -> u64
+    ensures { IsSketch clause.now result }
+{
+    let mut made = u64::MAX;
+    for lit in clause {
+        made &= mask(*lit);
+    }
+    made
+}
