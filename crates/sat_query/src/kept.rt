@@ -1,4 +1,4 @@
-ghost use Rattle.std.specs.Prelude.{ℕ, ◌≡◌, ◌+◌, ◌-◌, ◌≤◌, ◌++◌, ◌∷◌, [], drop, length, true, false, IsErr, IfOk, OnOk, OnErr};
+ghost use Rattle.std.specs.Prelude.{ℕ, ◌≡◌, ◌+◌, ◌-◌, ◌<◌, ◌≤◌, ◌++◌, ◌∷◌, [], drop, length, true, false, IsErr, IfOk, OnOk, OnErr};
 ghost use Rattle.sat_core.specs.Counts.{raised_by};
 ghost use Rattle.sat_core.specs.Solving.{IsLearnt};
 ghost use Rattle.sat_query.specs.Keeping.{KeptSays, YesSays};
@@ -51,6 +51,7 @@ fn asked_of<P: Poll>(
     requires { P.ready poll.old }
     ensures learnt { OnOk result (IsLearnt solver.new.vars solver.old.clauses solver.new.clauses) }
     ensures log { OnOk result (solver.new.log ≡ solver.old.log ++ drop (length solver.old.clauses) solver.new.clauses) }
+    ensures within { OnOk result (0 < budget → length solver.new.clauses ≤ length solver.old.clauses + budget) }
     ensures answer { IfOk result (λ answer. KeptSays solver.old.clauses solver.old.log solver.new.log asked.now budget answer) }
     ensures poll { P.ready poll.new }
     ensures held { P.held poll.new ≡ P.held poll.old }
@@ -105,6 +106,7 @@ impl Kept {
         requires { P.ready poll.old }
         ensures learnt { OnOk result (IsLearnt self.new.vars self.old.clauses self.new.clauses) }
         ensures log { OnOk result (self.new.log ≡ self.old.log ++ drop (length self.old.clauses) self.new.clauses) }
+        ensures within { OnOk result (0 < budget → length self.new.clauses ≤ length self.old.clauses + budget) }
         ensures answer { IfOk result (λ answer. KeptSays self.old.clauses self.old.log self.new.log asked.now budget answer) }
         ensures working { OnOk result (self.new.refused ≡ false) }
         ensures broken { OnErr result (self.new.refused ≡ true) }
