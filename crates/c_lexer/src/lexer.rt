@@ -24,6 +24,10 @@ pub const MAX_BYTES: usize = 1_048_576;
 /// The most tokens that a text may have.
 pub const MAX_TOKENS: usize = 200_000;
 
+/// The most bytes that the names among the tokens may have in all, 64 MiB. A text spells no more than `MAX_BYTES` of
+/// them itself; each use of a defined name gives a copy of the name that it stands for. More is want of memory.
+pub const MAX_NAME_BYTES: usize = 67_108_864;
+
 /// Why a text has no tokens: the first fault from the left, at the offset of its first byte.
 #[derive(Debug, Drop, Error)]
 pub enum LexFault {
@@ -39,7 +43,7 @@ pub enum LexFault {
     /// One token more than `MAX_TOKENS`.
     #[error("too many tokens at {at}")]
     TooManyTokens { at: u32 },
-    /// Want of memory.
+    /// Want of memory, also where the names among the tokens have more than `MAX_NAME_BYTES`.
     #[error("out of memory")]
     NoMemory,
 }
@@ -52,6 +56,8 @@ pub(crate) struct Reader {
     line: usize,
     fresh: bool,
     names: Names,
+    /// How many bytes further names may have.
+    room: usize,
     tokens: Vec<Token>,
 }
 
@@ -164,6 +170,23 @@ impl Reader {
         }
     }
 
+    /// Counts the bytes of a name.
+    fn spell(&mut self, kind: &TokenKind) -> Result<(), NoMemory>
+        requires ready { IsReady self.old.model self.old }
+        ensures state { state_view self.new ≡ state_view self.old }
+        ensures ready { IsReady self.old.model self.new }
+        ensures model { self.new.model ≡ self.old.model }
+    {
+        let TokenKind::Name { text } = kind else {
+            return Ok(());
+        };
+        if text.len() > self.room {
+            return Err(NoMemory);
+        }
+        self.room -= text.len();
+        Ok(())
+    }
+
     /// What a word or name is.
     fn word(
         &mut self,
@@ -178,7 +201,9 @@ impl Reader {
         ensures ready { IsReady self.old.model self.new }
         ensures model { self.new.model ≡ self.old.model }
     {
-        self.names.kind_of_name(alloc, &vocabulary.words, text)
+        let kind = self.names.kind_of_name(alloc, &vocabulary.words, text)?;
+        self.spell(&kind)?;
+        Ok(kind)
     }
 
     /// Goes on after a piece.
@@ -360,6 +385,7 @@ fn divide(alloc: Global, bytes: &[u8], model: DataModel) -> Result<Tokens, LexFa
         line: 1,
         fresh: true,
         names: Names::new(alloc, model),
+        room: MAX_NAME_BYTES,
         tokens: Vec::new(alloc),
     };
     let mut rest = bytes;

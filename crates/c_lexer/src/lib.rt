@@ -6,4 +6,4 @@ mod headers;
 mod lexer;
 mod names;
 
-pub use lexer::{LexFault, MAX_BYTES, MAX_TOKENS, lex};
+pub use lexer::{LexFault, MAX_BYTES, MAX_NAME_BYTES, MAX_TOKENS, lex};

@@ -161,3 +161,18 @@ fn long_constant(rt: HostRuntime) -> Result<(), Fail> {
     assert_eq!(rt; answer_of(rt.alloc(), &text)?, Answer::Tokens(200_000));
     Ok(())
 }
+
+/// A name of half a million letters, and a name that stands for it many times: as many copies of it as there is room
+/// for, and then want of memory. Without an end to them 250,000 uses would take 125 GB.
+#[test]
+fn long_name(rt: HostRuntime) -> Result<(), Fail> {
+    for (uses, fits) in [(134, true), (250_000, false)] {
+        let mut text = Vec::new(rt.alloc());
+        text.extend_from_slice(b"#define A ")?;
+        text.extend_from_slice(&repeated(rt.alloc(), b"b", 500_000)?)?;
+        text.push(b'\n')?;
+        text.extend_from_slice(&repeated(rt.alloc(), b"A ", 2 * uses)?)?;
+        assert_eq!(rt; answer_of(rt.alloc(), &text).is_ok(), fits);
+    }
+    Ok(())
+}
