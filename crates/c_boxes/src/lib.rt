@@ -5,7 +5,7 @@
 #[cfg(test)]
 mod tests;
 
-ghost use Rattle.std.specs.Prelude.{◌≡◌, ◌∷◌, IfOk};
+ghost use Rattle.std.specs.Prelude.{◌≡◌, ◌∷◌, IfOk, MatchResult, Ok, Err};
 
 use kv_base::NoMemory;
 use sqlite_items::{Boxed, Items};
@@ -48,6 +48,19 @@ pub fn beside<Value: Drop, Kept: Drop>(
 {
     let value = Boxed::new(alloc, value)?;
     Ok((value, kept))
+}
+
+/// What is kept over a step that may fail, and what the step gives.
+pub fn keeping<Kept: Drop, Given, Fault>(
+    kept: Kept,
+    step: Result<Given, Fault>,
+) -> Result<(Kept, Given), Fault>
+    ensures { MatchResult result (λ both. (both.0 ≡ kept) × (step ≡ Ok both.1)) (λ fault. step ≡ Err fault) }
+{
+    match step {
+        Ok(given) => Ok((kept, given)),
+        Err(fault) => Err(fault),
+    }
 }
 
 /// A list that begins with this element.

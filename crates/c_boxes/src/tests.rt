@@ -1,4 +1,4 @@
-use crate::{beside, pair, triple, with_first};
+use crate::{beside, keeping, pair, triple, with_first};
 use sqlite_items::Items;
 use std::test::Fail;
 
@@ -11,6 +11,15 @@ fn boxes_hold_their_values(rt: HostRuntime) -> Result<(), Fail> {
     assert_eq!(rt; third.into_inner(), 3u8);
     let (value, kept) = beside(rt.alloc(), 4u8, 5u64)?;
     assert_eq!(rt; (*value.get(), kept), (4u8, 5u64));
+    Ok(())
+}
+
+#[test]
+fn what_is_kept_comes_back_with_what_a_step_gives(rt: HostRuntime) -> Result<(), Fail> {
+    let step: Result<u64, u8> = Ok(2);
+    assert_eq!(rt; keeping(1u8, step), Ok((1u8, 2u64)));
+    let step: Result<u64, u8> = Err(3);
+    assert_eq!(rt; keeping(1u8, step), Err(3));
     Ok(())
 }
 
