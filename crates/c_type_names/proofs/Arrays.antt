@@ -7,7 +7,7 @@ use Rattle.c_tree.specs.declared.expression.Declarator.TheVariants as declarator
 use Rattle.c_tree.specs.Places.{Place, next}
 use Rattle.c_marks.specs.declared.marks.Mark.TheVariants as mark
 use Rattle.c_marks.specs.Bare.{bare}
-use Rattle.c_declarators.specs.TypeNames.{array_read}
+use Rattle.c_type_names.specs.TypeNames.{array_read}
 use Rattle.c_grammar.specs.Marks as spec
 use Rattle.c_grammar.specs.Marks.{Mark, mark_at}
 use Rattle.c_grammar.specs.Reader.{Outcome, Gives, Refuses, and_then, Reader}

@@ -6,9 +6,10 @@ ghost use Rattle.c_grammar.specs.ReadTypes as spec;
 ghost use Rattle.c_grammar.specs.Readers as readers;
 ghost use Rattle.c_marks.specs.Reads.{Reads, ReadsAs, specified_of};
 ghost use Rattle.c_marks.specs.Parts.{ReadsExpressions, ReadsPartAs};
-ghost use Rattle.c_declarators.specs.TypeNames.{array_read};
+ghost use Rattle.c_type_names.specs.TypeNames.{array_read};
 
-use crate::sizes::closed_size;
+use crate::sizes::{array_of, closed_size};
+use c_boxes::keeping;
 use c_marks::{Fault, Mark, Specified, mark_at, may_qualify_type, qualifiers, refuse};
 use c_model::Token;
 use c_scopes::Cursor;
@@ -41,13 +42,10 @@ impl<'t, R: Fn(Global, &[Token], usize, u8, &mut Cursor) -> Result<Expression, F
         ensures { Reads (array_read (kinds_of self.now.tokens.now) self.now.depth inner place.old) result place.new }
     {
         let at = place.at();
-        let inner = Boxed::new(self.alloc, inner)?;
         place.skip();
-        let size = Boxed::new(
-            self.alloc,
-            closed_size(self.alloc, self.tokens, self.depth, &self.read, place)?,
-        )?;
-        Ok(Declarator::Array { inner, size, at })
+        let size = closed_size(self.alloc, self.tokens, self.depth, &self.read, place);
+        let (inner, size) = keeping(inner, size)?;
+        Ok(array_of(self.alloc, inner, size, at)?)
     }
 
     /// The arrays of a type name, as many as there are.
@@ -122,7 +120,7 @@ impl<
         ensures { Reads (readers.types (kinds_of self.now.tokens.now) self.now.depth place.old) result place.new }
     {
         let specified = self.specifiers(place)?;
-        let declarator = self.unnamed(self.depth, place)?;
+        let (specified, declarator) = keeping(specified, self.unnamed(self.depth, place))?;
         Ok(TypeName {
             specifiers: specified.list,
             declarator,

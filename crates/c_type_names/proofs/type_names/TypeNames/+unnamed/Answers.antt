@@ -3,8 +3,8 @@ use Rattle.c_tree.specs.SpellsText.{kinds_of}
 use Rattle.c_grammar.specs.Reader.{Refuses}
 use Rattle.c_grammar.specs.ReadTypes.{qualifiers, unnamed}
 use Rattle.c_grammar.specs.Readers.{read}
-use Rattle.c_declarators.proofs.Unnamed.{unnamed_none, unnamed_arrays, unnamed_unread, unnamed_unqualified, unnamed_refused, unnamed_pointer}
-use Rattle.c_declarators.proofs.type_names.TypeNames.+unnamed.Goals as goal
+use Rattle.c_type_names.proofs.Unnamed.{unnamed_none, unnamed_arrays, unnamed_unread, unnamed_unqualified, unnamed_refused, unnamed_pointer}
+use Rattle.c_type_names.proofs.type_names.TypeNames.+unnamed.Goals as goal
 
 pub returns-then-limit-eq0 : goal.returns-then-limit-eq0
 returns-then-limit-eq0 g t c = rw c.refuse.ensures (unnamed_none _ _ _ _ c.if-limit-eq0.true)

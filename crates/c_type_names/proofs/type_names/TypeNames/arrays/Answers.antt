@@ -3,9 +3,9 @@ use Rattle.c_tree.specs.SpellsText.{kinds_of}
 use Rattle.c_grammar.specs.Reader.{Refuses}
 use Rattle.c_grammar.specs.ReadTypes.{arrays}
 use Rattle.c_grammar.specs.Readers.{read}
-use Rattle.c_declarators.specs.TypeNames.{array_read}
-use Rattle.c_declarators.proofs.Arrays.{arrays_next, arrays_refused, arrays_end, arrays_none}
-use Rattle.c_declarators.proofs.type_names.TypeNames.arrays.Goals as goal
+use Rattle.c_type_names.specs.TypeNames.{array_read}
+use Rattle.c_type_names.proofs.Arrays.{arrays_next, arrays_refused, arrays_end, arrays_none}
+use Rattle.c_type_names.proofs.type_names.TypeNames.arrays.Goals as goal
 
 pub returns-in_err-whole-in-SquareOpens : goal.returns-in_err-whole-in-SquareOpens
 returns-in_err-whole-in-SquareOpens g c =

@@ -2,7 +2,7 @@ use Rattle.std.proofs.Common.{◌≡◌, ◌-◌}
 use Rattle.c_tree.specs.SpellsText.{kinds_of}
 use Rattle.c_grammar.specs.ReadTypes.{arrays}
 use Rattle.c_grammar.specs.Readers.{read}
-use Rattle.c_declarators.proofs.type_names.TypeNames.arrays.Given as goal
+use Rattle.c_type_names.proofs.type_names.TypeNames.arrays.Given as goal
 
 abbrev pub invariant-loop-turn : goal.invariant-loop-turn
 invariant-loop-turn g l =
