@@ -1,7 +1,6 @@
 -- Declarators, part by part.
-use Rattle.std.proofs.Common.{◌≡◌, ℕ, zero, suc, ◌+◌, ◌-◌, ◌<◌, ◌≤◌, Bool, true, false, List, [], Option, Some, None, Result, refl, sym, subst, ◌∙◌, ap, arith}
+use Rattle.std.proofs.Common.{◌≡◌, ℕ, ◌+◌, ◌-◌, ◌<◌, ◌≤◌, false, List, [], Option, None, Result, refl, sym, subst, ◌∙◌, ap, arith}
 use Rattle.c_model.specs.declared.token.TokenKind.{TokenKind}
-use Rattle.c_model.specs.declared.token.TokenKind.TheVariants as token
 use Rattle.c_tree.specs.declared.expression.Expression.{Expression}
 use Rattle.c_tree.specs.declared.expression.Declarator.{Declarator}
 use Rattle.c_tree.specs.declared.expression.Declarator.TheVariants as declarator_node
@@ -16,10 +15,9 @@ use Rattle.c_marks.specs.Bare.{bare}
 use Rattle.c_type_names.specs.TypeNames.{closed_size}
 use Rattle.c_marks.specs.Reads.{ReadsAs, titled_of, perhaps_of, name_read}
 use Rattle.c_declarators.specs.Declarators.{alone, parameters_at, array_suffix, function_parameters, function_suffix, titled_at, inner_declarator, declared_name, perhaps_at}
-use Rattle.c_grammar.specs.Kinds.{kind_at, prefix, prefix_of}
 use Rattle.c_grammar.specs.Marks as spec
 use Rattle.c_grammar.specs.Marks.{Mark, mark_of, mark_at}
-use Rattle.c_grammar.specs.Reader.{Outcome, Gives, Refuses, and_then, where_name, Reader}
+use Rattle.c_grammar.specs.Reader.{Outcome, Gives, Refuses, and_then, Reader}
 use Rattle.c_grammar.specs.ReadTypes.{Titled, Titles, Takes, Taken, Suffixes, Without, where_closes, where_square_closes, array_by, with_parameters, function_by, suffixes_by, suffixes}
 use Rattle.c_grammar.specs.Readers.{read, declarator}
 use Rattle.c_declarators.proofs.Plain.{told}

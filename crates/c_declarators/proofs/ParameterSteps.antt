@@ -1,11 +1,11 @@
 -- Parameters, one by one.
-use Rattle.std.proofs.Common.{◌≡◌, ℕ, zero, suc, ◌+◌, ◌-◌, ◌<◌, ◌≤◌, Bool, true, false, List, [], ◌∷◌, ◌++◌, refl, sym, ◌∙◌, ap, append_assoc, arith}
+use Rattle.std.proofs.Common.{◌≡◌, ℕ, ◌+◌, ◌-◌, ◌<◌, ◌≤◌, true, false, List, [], ◌∷◌, ◌++◌, refl, sym, ◌∙◌, ap, append_assoc, arith}
 use Rattle.c_model.specs.declared.token.TokenKind.{TokenKind}
 use Rattle.c_tree.specs.declared.expression.Parameter.{Parameter}
 use Rattle.c_tree.specs.Places.{Place, next}
 use Rattle.c_marks.specs.declared.marks.Mark.TheVariants as mark
 use Rattle.c_marks.specs.Bare.{bare}
-use Rattle.c_declarators.specs.Declarators.{parameter_at, parameters_at}
+use Rattle.c_declarators.specs.Declarators.{parameter_at}
 use Rattle.c_grammar.specs.Marks as spec
 use Rattle.c_grammar.specs.Marks.{Mark, mark_at}
 use Rattle.c_grammar.specs.Reader.{Outcome, Gives, Refuses, and_then}
