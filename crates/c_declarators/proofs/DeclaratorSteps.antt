@@ -1,7 +1,6 @@
 -- Declarators, part by part.
-use Rattle.std.proofs.Common.{◌≡◌, ℕ, zero, suc, ◌+◌, ◌-◌, ◌<◌, ◌≤◌, Bool, true, false, List, [], Option, Some, None, Result, refl, sym, subst, ◌∙◌, ap, arith}
+use Rattle.std.proofs.Common.{◌≡◌, ℕ, ◌+◌, ◌-◌, ◌<◌, ◌≤◌, false, List, [], Option, None, Result, refl, sym, subst, ◌∙◌, ap, arith}
 use Rattle.c_model.specs.declared.token.TokenKind.{TokenKind}
-use Rattle.c_model.specs.declared.token.TokenKind.TheVariants as token
 use Rattle.c_tree.specs.declared.expression.Expression.{Expression}
 use Rattle.c_tree.specs.declared.expression.Declarator.{Declarator}
 use Rattle.c_tree.specs.declared.expression.Declarator.TheVariants as declarator_node
@@ -13,15 +12,15 @@ use Rattle.c_marks.specs.declared.marks.Mark.TheVariants as mark
 use Rattle.c_marks.specs.declared.parts.Titled as parts_titled
 use Rattle.c_marks.specs.declared.parts.Perhaps as parts_perhaps
 use Rattle.c_marks.specs.Bare.{bare}
-use Rattle.c_declarators.specs.TypeNames.{closed_size}
+use Rattle.c_type_names.specs.TypeNames.{closed_size}
 use Rattle.c_marks.specs.Reads.{ReadsAs, titled_of, perhaps_of, name_read}
 use Rattle.c_declarators.specs.Declarators.{alone, parameters_at, array_suffix, function_parameters, function_suffix, titled_at, inner_declarator, declared_name, perhaps_at}
-use Rattle.c_grammar.specs.Kinds.{kind_at, prefix, prefix_of}
 use Rattle.c_grammar.specs.Marks as spec
 use Rattle.c_grammar.specs.Marks.{Mark, mark_of, mark_at}
-use Rattle.c_grammar.specs.Reader.{Outcome, Gives, Refuses, and_then, where_name, Reader}
+use Rattle.c_grammar.specs.Reader.{Outcome, Gives, Refuses, and_then, Reader}
 use Rattle.c_grammar.specs.ReadTypes.{Titled, Titles, Takes, Taken, Suffixes, Without, where_closes, where_square_closes, array_by, with_parameters, function_by, suffixes_by, suffixes}
 use Rattle.c_grammar.specs.Readers.{read, declarator}
+use Rattle.c_declarators.proofs.Plain.{told}
 use Rattle.c_marks.proofs.Lists.{one_further}
 use Rattle.c_marks.proofs.Skipped.{closes_both, square_closes_both}
 use Rattle.c_marks.proofs.Single.{name_of, name_marked}
@@ -48,8 +47,7 @@ array_on kinds rd go (Titles name parameters inner) p _ =
 
 by_open : (kinds : List TokenKind) (rd : Reader) (name : List ℕ) (parameters : Option (List Entry)) (inner : Declarator) (p : Place) (m : Mark) → bare m ≡ mark.SquareCloses
     → array_by kinds rd alone (Titles name parameters inner) p m ≡ Gives (Titles name parameters (declarator_node.OpenArray inner p.at)) (next (next p))
-by_open kinds rd name parameters inner p spec.SquareCloses e = refl
-by_open kinds rd name parameters inner p _ e = cc
+by_open kinds rd name parameters inner p m e = rw (told m spec.SquareCloses tt e) refl
 
 by_sized : (kinds : List TokenKind) (n : ℕ) (name : List ℕ) (parameters : Option (List Entry)) (inner : Declarator) (p : Place) (m : Mark) → (bare m ≡ mark.SquareCloses → ⊥)
     → array_by kinds (read kinds n) alone (Titles name parameters inner) p m ≡ and_then (closed_size kinds n (next p)) (λ size r. Gives (Titles name parameters (declarator_node.Array inner size p.at)) r)
@@ -98,8 +96,7 @@ function_on kinds list go (Titles name parameters inner) p _ =
 
 by_empty : (kinds : List TokenKind) (list : Place → Outcome Takes) (name : List ℕ) (parameters : Option (List Entry)) (inner : Declarator) (p : Place) (m : Mark) → bare m ≡ mark.RoundCloses
     → function_by kinds list alone (Titles name parameters inner) p m ≡ Gives (Titles name (nearest parameters []) (declarator_node.Function inner [] false p.at)) (next (next p))
-by_empty kinds list name parameters inner p spec.RoundCloses e = refl
-by_empty kinds list name parameters inner p _ e = cc
+by_empty kinds list name parameters inner p m e = rw (told m spec.RoundCloses tt e) refl
 
 by_parameters : (kinds : List TokenKind) (n : ℕ) (name : List ℕ) (parameters : Option (List Entry)) (inner : Declarator) (p : Place) (m : Mark) → (bare m ≡ mark.RoundCloses → ⊥)
     → function_by kinds (parameters_at kinds n) alone (Titles name parameters inner) p m ≡ function_parameters kinds n (Titles name parameters inner) p.at (next p)
@@ -135,13 +132,11 @@ suffixes_step kinds d n i x p h = ap (λ m. further_suffixes kinds d m x p) (one
 
 by_array : (kinds : List TokenKind) (n : ℕ) (go : Suffixes) (x : Titled) (p : Place) (m : Mark) → bare m ≡ mark.SquareOpens
     → suffixes_by kinds (read kinds n) (parameters_at kinds n) go x p m ≡ and_then (array_suffix kinds n x p) go
-by_array kinds n go x p spec.SquareOpens e = array_on kinds (read kinds n) go x p (mark_at kinds (next p))
-by_array kinds n go x p _ e = cc
+by_array kinds n go x p m e = rw (told m spec.SquareOpens tt e) (array_on kinds (read kinds n) go x p (mark_at kinds (next p)))
 
 by_function : (kinds : List TokenKind) (n : ℕ) (go : Suffixes) (x : Titled) (p : Place) (m : Mark) → bare m ≡ mark.RoundOpens
     → suffixes_by kinds (read kinds n) (parameters_at kinds n) go x p m ≡ and_then (function_suffix kinds n x p) go
-by_function kinds n go x p spec.RoundOpens e = function_on kinds (parameters_at kinds n) go x p (mark_at kinds (next p))
-by_function kinds n go x p _ e = cc
+by_function kinds n go x p m e = rw (told m spec.RoundOpens tt e) (function_on kinds (parameters_at kinds n) go x p (mark_at kinds (next p)))
 
 by_end : (kinds : List TokenKind) (n : ℕ) (go : Suffixes) (x : Titled) (p : Place) (m : Mark) → (bare m ≡ mark.SquareOpens → ⊥) → (bare m ≡ mark.RoundOpens → ⊥)
     → suffixes_by kinds (read kinds n) (parameters_at kinds n) go x p m ≡ Gives x p
@@ -203,8 +198,7 @@ declared_name_read kinds p =
 -- ---- a declarator, or what stands for one in a parameter
 
 by_pointer : (kinds : List TokenKind) (n : ℕ) (p : Place) (m : Mark) → bare m ≡ mark.Star → perhaps_at kinds n p m ≡ perhaps_at kinds n p spec.Star
-by_pointer kinds n p spec.Star e = refl
-by_pointer kinds n p _ e = cc
+by_pointer kinds n p m e = ap (perhaps_at kinds n p) (told m spec.Star tt e)
 
 by_name : (kinds : List TokenKind) (n : ℕ) (p : Place) (m : Mark) → bare m ≡ mark.Name → perhaps_at kinds n p m ≡ and_then (declared_name p m) (titled_at kinds n)
 by_name kinds n p (spec.Name text) e = refl
@@ -216,8 +210,7 @@ brackets_on kinds n p =
     (λ d q. closes_both (mark_at kinds q) (titled_at kinds n d (next q)) (Gives d (next q)) (titled_at kinds n) refl)
 
 by_brackets : (kinds : List TokenKind) (n : ℕ) (p : Place) (m : Mark) → bare m ≡ mark.RoundOpens → perhaps_at kinds n p m ≡ and_then (inner_declarator kinds n p) (titled_at kinds n)
-by_brackets kinds n p spec.RoundOpens e = brackets_on kinds n p
-by_brackets kinds n p _ e = cc
+by_brackets kinds n p m e = ap (perhaps_at kinds n p) (told m spec.RoundOpens tt e) ∙ brackets_on kinds n p
 
 by_others : (kinds : List TokenKind) (n : ℕ) (p : Place) (m : Mark) → (bare m ≡ mark.Star → ⊥) → (bare m ≡ mark.Name → ⊥) → (bare m ≡ mark.RoundOpens → ⊥)
     → perhaps_at kinds n p m ≡ Gives (Without (declarator_node.Unnamed p.at)) p

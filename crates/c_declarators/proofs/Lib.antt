@@ -1,4 +1,3 @@
-pub mod Arrays
-pub mod Unnamed
+pub mod Plain
 pub mod ParameterSteps
 pub mod DeclaratorSteps

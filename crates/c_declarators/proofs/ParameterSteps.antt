@@ -1,16 +1,17 @@
 -- Parameters, one by one.
-use Rattle.std.proofs.Common.{◌≡◌, ℕ, zero, suc, ◌+◌, ◌-◌, ◌<◌, ◌≤◌, Bool, true, false, List, [], ◌∷◌, ◌++◌, refl, sym, ◌∙◌, ap, append_assoc, arith}
+use Rattle.std.proofs.Common.{◌≡◌, ℕ, ◌+◌, ◌-◌, ◌<◌, ◌≤◌, true, false, List, [], ◌∷◌, ◌++◌, refl, sym, ◌∙◌, ap, append_assoc, arith}
 use Rattle.c_model.specs.declared.token.TokenKind.{TokenKind}
 use Rattle.c_tree.specs.declared.expression.Parameter.{Parameter}
 use Rattle.c_tree.specs.Places.{Place, next}
 use Rattle.c_marks.specs.declared.marks.Mark.TheVariants as mark
 use Rattle.c_marks.specs.Bare.{bare}
-use Rattle.c_declarators.specs.Declarators.{parameter_at, parameters_at}
+use Rattle.c_declarators.specs.Declarators.{parameter_at}
 use Rattle.c_grammar.specs.Marks as spec
 use Rattle.c_grammar.specs.Marks.{Mark, mark_at}
 use Rattle.c_grammar.specs.Reader.{Outcome, Gives, Refuses, and_then}
 use Rattle.c_grammar.specs.ReadTypes.{Takes, Taken, attributes, parameter, first_taken, parameters_comma, parameters_after, parameters}
 use Rattle.c_grammar.specs.Readers.{specifiers, perhaps}
+use Rattle.c_declarators.proofs.Plain.{told}
 use Rattle.c_marks.proofs.Lists.{one_further}
 
 -- what parameters are with these before them
@@ -42,12 +43,10 @@ by_last kinds more x q _ f = refl
 
 by_comma : (kinds : List TokenKind) (more : Place → Outcome Takes) (x : Parameter) (q : Place) (m : Mark) → bare m ≡ mark.Comma
     → parameters_after kinds more x q m ≡ parameters_comma more x (next q) (mark_at kinds (next q))
-by_comma kinds more x q spec.Comma e = refl
-by_comma kinds more x q _ e = cc
+by_comma kinds more x q m e = rw (told m spec.Comma tt e) refl
 
 by_variadic : (more : Place → Outcome Takes) (x : Parameter) (q : Place) (m : Mark) → bare m ≡ mark.Ellipsis → parameters_comma more x q m ≡ Gives (Taken (x ∷ []) true) (next q)
-by_variadic more x q spec.Ellipsis e = refl
-by_variadic more x q _ e = cc
+by_variadic more x q m e = rw (told m spec.Ellipsis tt e) refl
 
 by_further : (more : Place → Outcome Takes) (x : Parameter) (q : Place) (m : Mark) → (bare m ≡ mark.Ellipsis → ⊥) → parameters_comma more x q m ≡ and_then (more q) (first_taken x)
 by_further more x q spec.Ellipsis f = absurd (f refl)

@@ -1,5 +1,5 @@
 -- The parts of a declarator and of a parameter (6.7.6), as the functions that read them divide them.
-use Rattle.std.specs.Prelude.{ℕ, List, [], Option, Some, None}
+use Rattle.std.specs.Prelude.{ℕ, List, [], None}
 use Rattle.c_model.specs.declared.token.TokenKind.{TokenKind}
 use Rattle.c_tree.specs.declared.expression.Declarator.TheVariants as declarator_node
 use Rattle.c_tree.specs.declared.expression.Parameter.{Parameter}

@@ -11,16 +11,18 @@ ghost use Rattle.c_marks.specs.Reads.{Reads, ReadsAs, specified_of, titled_of, p
 ghost use Rattle.c_marks.specs.Parts.{ReadsExpressions, ReadsPartAs};
 ghost use Rattle.c_declarators.specs.Declarators.{parameters_of, parameter_at, parameters_at, array_suffix, function_parameters, function_suffix, suffixes_at, titled_at, inner_declarator, declared_name, perhaps_at};
 
-use crate::sizes::closed_size;
+use crate::shapes;
+use c_boxes::keeping;
 use c_marks::{
     Fault, Mark, Perhaps, Specified, Titled, attributes, mark_at, may_qualify_parameter, name,
     qualifiers, refuse, take,
 };
 use c_model::Token;
-use c_scopes::{Block, Cursor};
+use c_scopes::Cursor;
 use c_tree::{Declarator, Expression, Parameter, Qualifier, Specifier};
+use c_type_names::closed_size;
 use kv_base::{Copied, Sequence, Stack};
-use sqlite_items::{Boxed, Items};
+use sqlite_items::Items;
 use std::alloc::Global;
 
 /// Parameters (6.7.6.3).
@@ -43,44 +45,17 @@ fn pointed(
 {
     match inner {
         Perhaps::With { titled } => {
-            let Titled {
-                name,
-                parameters,
-                inner,
-            } = titled;
-            let inner = Declarator::Pointer {
-                qualifiers,
-                inner: Boxed::new(alloc, inner)?,
-                at,
-            };
-            Ok(Perhaps::With {
-                titled: Titled {
-                    name,
-                    parameters,
-                    inner,
-                },
-            })
+            let titled = shapes::pointer(alloc, qualifiers, at, titled)?;
+            Ok(Perhaps::With { titled })
         }
         Perhaps::Without { inner } => {
             if !may_qualify_parameter(qualifiers.as_slice()) {
                 return Err(refuse(place));
             }
-            Ok(Perhaps::Without {
-                inner: Declarator::Pointer {
-                    qualifiers,
-                    inner: Boxed::new(alloc, inner)?,
-                    at,
-                },
-            })
+            let inner = shapes::pointer_to(alloc, qualifiers, inner, at)?;
+            Ok(Perhaps::Without { inner })
         }
     }
-}
-
-/// The parameters nearest to the name: those that were found before, or these.
-fn nearest(found: Option<Block>, here: Block) -> Option<Block>
-    ensures { result ≡ spelled.nearest found here }
-{
-    found.or(Some(here))
 }
 
 /// The rules of declarators, with what reads the expressions, the specifiers and the declarators inside.
@@ -99,6 +74,26 @@ pub struct Declarators<'t, R, S, P> {
 }
 
 impl<'t, R, S, P> Declarators<'t, R, S, P> {
+    /// A parameter with a name, whose specifiers and declarator were read. The name is declared from here on.
+    fn declared_parameter(
+        &self,
+        specifiers: Items<Specifier>,
+        titled: Titled,
+        place: &mut Cursor,
+    ) -> Result<Parameter, Fault>
+        ensures { let kinds = kinds_of self.now.tokens.now in Reads (spec.parameter_after (spec.attributes kinds self.now.depth) specifiers (spec.With (titled_of titled)) place.old) result place.new }
+    {
+        let behind = attributes(self.alloc, self.tokens, self.depth, place);
+        let ((specifiers, titled), _) = keeping((specifiers, titled), behind)?;
+        let Titled { name, inner, .. } = titled;
+        let declared = place.declare(name, false);
+        let ((specifiers, declarator), _) = keeping((specifiers, inner), declared)?;
+        Ok(Parameter {
+            specifiers,
+            declarator,
+        })
+    }
+
     /// A parameter whose specifiers and declarator were read. Its name is declared from here on.
     fn parameter_after(
         &self,
@@ -109,15 +104,7 @@ impl<'t, R, S, P> Declarators<'t, R, S, P> {
         ensures { let kinds = kinds_of self.now.tokens.now in Reads (spec.parameter_after (spec.attributes kinds self.now.depth) specifiers (perhaps_of perhaps) place.old) result place.new }
     {
         match perhaps {
-            Perhaps::With { titled } => {
-                let Titled { name, inner, .. } = titled;
-                attributes(self.alloc, self.tokens, self.depth, place)?;
-                place.declare(name, false)?;
-                Ok(Parameter {
-                    specifiers,
-                    declarator: inner,
-                })
-            }
+            Perhaps::With { titled } => self.declared_parameter(specifiers, titled, place),
             Perhaps::Without { inner } => Ok(Parameter {
                 specifiers,
                 declarator: inner,
@@ -153,31 +140,15 @@ impl<
         requires here { place.old.at < usize.MAX }
         ensures { ReadsAs titled_of (array_suffix (kinds_of self.now.tokens.now) self.now.depth (titled_of titled) place.old) result place.new }
     {
-        let Titled {
-            name,
-            parameters,
-            inner,
-        } = titled;
         let at = place.at();
-        let inner = Boxed::new(self.alloc, inner)?;
         place.skip();
         let Mark::SquareCloses = mark_at(self.tokens, place) else {
-            let size = Boxed::new(
-                self.alloc,
-                closed_size(self.alloc, self.tokens, self.depth, &self.read, place)?,
-            )?;
-            return Ok(Titled {
-                name,
-                parameters,
-                inner: Declarator::Array { inner, size, at },
-            });
+            let size = closed_size(self.alloc, self.tokens, self.depth, &self.read, place);
+            let (titled, size) = keeping(titled, size)?;
+            return Ok(shapes::array(self.alloc, titled, size, at)?);
         };
         place.skip();
-        Ok(Titled {
-            name,
-            parameters,
-            inner: Declarator::OpenArray { inner, at },
-        })
+        Ok(shapes::open_array(self.alloc, titled, at)?)
     }
 }
 
@@ -202,7 +173,8 @@ impl<'t, R, S, P: Fn(Global, &[Token], usize, &mut Cursor) -> Result<Perhaps, Fa
     {
         match self.perhaps(place)? {
             Perhaps::With { titled } => {
-                attributes(self.alloc, self.tokens, self.depth, place)?;
+                let behind = attributes(self.alloc, self.tokens, self.depth, place);
+                let (titled, _) = keeping(titled, behind)?;
                 Ok(titled)
             }
             Perhaps::Without { .. } => Err(refuse(place)),
@@ -218,7 +190,7 @@ impl<'t, R, S, P: Fn(Global, &[Token], usize, &mut Cursor) -> Result<Perhaps, Fa
     {
         place.skip();
         let titled = self.named_declarator(place)?;
-        take(self.tokens, Mark::RoundCloses, place)?;
+        let (titled, _) = keeping(titled, take(self.tokens, Mark::RoundCloses, place))?;
         Ok(titled)
     }
 
@@ -264,7 +236,7 @@ impl<
         ensures { Reads (parameter_at (kinds_of self.now.tokens.now) self.now.depth place.old) result place.new }
     {
         let specified = self.specifiers(place)?;
-        let perhaps = self.perhaps(place)?;
+        let (specified, perhaps) = keeping(specified, self.perhaps(place))?;
         self.parameter_after(specified.list, perhaps, place)
     }
 
@@ -310,24 +282,11 @@ impl<
         requires declares { ReadsPartAs perhaps_of readers.perhaps self.now.depth (P.pre self.now.perhaps) (P.post self.now.perhaps) }
         ensures { ReadsAs titled_of (function_parameters (kinds_of self.now.tokens.now) self.now.depth (titled_of titled) at place.old) result place.new }
     {
-        let Titled {
-            name,
-            parameters,
-            inner,
-        } = titled;
-        place.enter()?;
-        let taken = self.parameters(place)?;
-        take(self.tokens, Mark::RoundCloses, place)?;
-        Ok(Titled {
-            name,
-            parameters: nearest(parameters, place.leave()),
-            inner: Declarator::Function {
-                inner: Boxed::new(self.alloc, inner)?,
-                parameters: taken.list,
-                variadic: taken.variadic,
-                at,
-            },
-        })
+        let (titled, _) = keeping(titled, place.enter())?;
+        let (titled, taken) = keeping(titled, self.parameters(place))?;
+        let (parts, _) = keeping((titled, taken), take(self.tokens, Mark::RoundCloses, place))?;
+        let (titled, taken) = parts;
+        Ok(shapes::function(self.alloc, titled, taken, place.leave(), at)?)
     }
 
     /// `()` or `(parameters)` behind a declarator (6.7.6.3), from the `(` on.
@@ -344,21 +303,11 @@ impl<
             return self.function_parameters(titled, at, place);
         };
         place.skip();
-        let Titled {
-            name,
-            parameters,
-            inner,
-        } = titled;
-        Ok(Titled {
-            name,
-            parameters: nearest(parameters, Stack::new(self.alloc)),
-            inner: Declarator::Function {
-                inner: Boxed::new(self.alloc, inner)?,
-                parameters: Items::new(self.alloc),
-                variadic: false,
-                at,
-            },
-        })
+        let taken = Parameters {
+            list: Items::new(self.alloc),
+            variadic: false,
+        };
+        Ok(shapes::function(self.alloc, titled, taken, Stack::new(self.alloc), at)?)
     }
 }
 

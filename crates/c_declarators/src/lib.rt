@@ -1,10 +1,8 @@
-//! The rules of type names (C11 6.7.7) and declarators (6.7.6). They take what reads the parts as parameters, so that each
+//! The rules of declarators and parameters (C11 6.7.6). They take what reads the parts as parameters, so that each
 //! rule is proved by itself.
 #![tactic(auto)]
 
 mod declarators;
-mod sizes;
-mod type_names;
+mod shapes;
 
 pub use declarators::{Declarators, Parameters};
-pub use type_names::TypeNames;

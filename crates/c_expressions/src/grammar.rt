@@ -5,7 +5,7 @@ ghost use Rattle.c_grammar.specs.Readers as spec;
 ghost use Rattle.c_marks.specs.Reads.{Reads, ReadsAs, specified_of, perhaps_of, titled_of};
 ghost use Rattle.c_marks.specs.Parts.{lines_at, constants_at};
 
-use c_declarators::{Declarators, TypeNames};
+use c_declarators::Declarators;
 use c_marks::{Fault, Perhaps, Specified, Titled, refuse};
 use c_members::{Constants, Members};
 use c_model::Token;
@@ -14,6 +14,7 @@ use c_scopes::Cursor;
 use c_specifiers::Specifiers;
 use c_suffixes::Suffixes;
 use c_tree::{EnumConstant, Expression, MemberLine, TypeName};
+use c_type_names::TypeNames;
 use sqlite_items::Items;
 use std::alloc::Global;
 

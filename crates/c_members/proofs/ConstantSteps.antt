@@ -7,10 +7,10 @@ use Rattle.c_marks.specs.declared.marks.Mark.TheVariants as mark
 use Rattle.c_marks.specs.Bare.{bare}
 use Rattle.c_marks.specs.Reads.{name_read}
 use Rattle.c_marks.proofs.Single.{name_of, name_marked}
-use Rattle.c_members.specs.Members.{constant_at, valued_constant, constant_after}
+use Rattle.c_members.specs.Members.{constant_at, constant_after}
 use Rattle.c_grammar.specs.Marks as spec
 use Rattle.c_grammar.specs.Marks.{Mark, mark_at}
-use Rattle.c_grammar.specs.Reader.{Outcome, Gives, and_then}
+use Rattle.c_grammar.specs.Reader.{Gives, and_then}
 use Rattle.c_grammar.specs.ReadTypes as types
 use Rattle.c_grammar.specs.Readers.{read}
 

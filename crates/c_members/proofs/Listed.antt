@@ -1,5 +1,5 @@
 -- Lists in specifiers, item by item.
-use Rattle.std.proofs.Common.{◌≡◌, ℕ, zero, suc, ◌+◌, ◌-◌, ◌<◌, ◌≤◌, List, [], ◌∷◌, ◌++◌, refl, sym, ◌∙◌, ap, arith}
+use Rattle.std.proofs.Common.{◌≡◌, ℕ, ◌+◌, ◌-◌, ◌<◌, ◌≤◌, List, [], ◌∷◌, ◌++◌, refl, sym, ◌∙◌, ap, arith}
 use Rattle.c_model.specs.declared.token.TokenKind.{TokenKind}
 use Rattle.c_tree.specs.declared.expression.MemberLine.{MemberLine}
 use Rattle.c_tree.specs.Places.{Place, next}
@@ -11,7 +11,7 @@ use Rattle.c_grammar.specs.Marks.{Mark, mark_at}
 use Rattle.c_grammar.specs.Reader.{Outcome, Gives, Refuses, and_then}
 use Rattle.c_grammar.specs.ReadTypes.{Specified, Specifies, ListOf, where_semicolon, separated_after, separated, listed_comma, listed_after, listed, line_after, lines_by, lines}
 use Rattle.c_grammar.specs.Readers.{specifiers}
-use Rattle.c_marks.proofs.Lists.{after, after_none, append_none, joined, one_further}
+use Rattle.c_marks.proofs.Lists.{after, append_none, joined, one_further}
 use Rattle.c_marks.proofs.Skipped.{semicolon_both}
 use Rattle.c_marks.proofs.Lists.{then_both}
 

@@ -1,6 +1,7 @@
 //! The constants of enumerations (C11 6.7.2.2).
 
-ghost use Rattle.std.specs.Prelude.{◌≡◌, ◌<◌};
+ghost use Rattle.std.specs.Prelude.{◌≡◌, ◌<◌, false, OnOk};
+ghost use Rattle.c_tree.specs.Places.{declare};
 ghost use Rattle.c_tree.specs.SpellsText.{kinds_of};
 ghost use Rattle.c_grammar.specs.Marks.{mark_at};
 ghost use Rattle.c_grammar.specs.Readers as readers;
@@ -8,14 +9,22 @@ ghost use Rattle.c_marks.specs.Reads.{Reads};
 ghost use Rattle.c_marks.specs.Parts.{ReadsExpressions, constants_at};
 ghost use Rattle.c_members.specs.Members.{constant_at, valued_constant, constant_after};
 
+use c_boxes::keeping;
 use c_grammar::CONDITIONAL;
 use c_marks::{Fault, Mark, mark_at, name, refuse};
 use c_model::Token;
 use c_scopes::Cursor;
 use c_tree::{EnumConstant, Expression};
-use kv_base::{Bytes, Copied};
+use kv_base::{Bytes, Copied, NoMemory};
 use sqlite_items::Items;
 use std::alloc::Global;
+
+/// The name is declared from here on, and is no type.
+fn declared(alloc: Global, name: &Bytes, place: &mut Cursor) -> Result<(), NoMemory>
+    ensures { OnOk result (place.new ≡ declare place.old name.now false) }
+{
+    place.declare(name.copy(alloc)?, false)
+}
 
 /// The rules of enumeration constants, with what reads the expressions inside.
 #[derive(Clone, Copy)]
@@ -53,8 +62,7 @@ impl<'t, R: Fn(Global, &[Token], usize, u8, &mut Cursor) -> Result<Expression, F
     {
         place.skip();
         let value = self.value(place)?;
-        let declared = name.copy(self.alloc)?;
-        place.declare(declared, false)?;
+        let (value, _) = keeping(value, declared(self.alloc, &name, place))?;
         Ok(EnumConstant::Valued { name, value, at })
     }
 
@@ -71,8 +79,7 @@ impl<'t, R: Fn(Global, &[Token], usize, u8, &mut Cursor) -> Result<Expression, F
         match mark_at(self.tokens, place) {
             Mark::Equals => self.valued_constant(name, at, place),
             _ => {
-                let declared = name.copy(self.alloc)?;
-                place.declare(declared, false)?;
+                declared(self.alloc, &name, place)?;
                 Ok(EnumConstant::Next { name, at })
             }
         }

@@ -9,6 +9,7 @@ ghost use Rattle.c_marks.specs.Reads.{Reads, ReadsAs, specified_of, titled_of};
 ghost use Rattle.c_marks.specs.Parts.{ReadsExpressions, ReadsPartAs, lines_at};
 ghost use Rattle.c_members.specs.Members.{member_at, unnamed_bit_field, bit_field, named_member, members_at, line_at};
 
+use c_boxes::keeping;
 use c_grammar::CONDITIONAL;
 use c_marks::{Fault, Mark, Specified, Titled, mark_at, refuse, take};
 use c_model::Token;
@@ -67,7 +68,7 @@ impl<
         let Titled { inner, .. } = titled;
         let at = place.at();
         place.skip();
-        let width = self.size(place)?;
+        let (inner, width) = keeping(inner, self.size(place))?;
         Ok(Member::BitField {
             declarator: inner,
             width,
@@ -182,10 +183,11 @@ impl<
         ensures { Reads (line_at (kinds_of self.now.tokens.now) self.now.depth place.old) result place.new }
     {
         let specified = self.specifiers(place)?;
-        let members = self.members(place)?;
-        take(self.tokens, Mark::Semicolon, place)?;
+        let parts = keeping(specified.list, self.members(place))?;
+        let (parts, _) = keeping(parts, take(self.tokens, Mark::Semicolon, place))?;
+        let (specifiers, members) = parts;
         Ok(MemberLine {
-            specifiers: specified.list,
+            specifiers,
             members,
         })
     }

@@ -10,6 +10,7 @@ ghost use Rattle.c_marks.specs.Reads.{Reads};
 ghost use Rattle.c_marks.specs.Parts.{ReadsExpressions, ReadsPart};
 ghost use Rattle.c_operands.specs.Operands.{operand, opens_type, closed_expression, closed_type, grouped, cast, sized_type, sized_operand};
 
+use c_boxes::{keeping, pair};
 use c_grammar::{CAST, POSTFIX, UNARY};
 use c_marks::{Fault, begins_type, close_round, is_start, refuse};
 use c_model::{Token, TokenKind};
@@ -66,7 +67,7 @@ impl<'t, R, T: Fn(Global, &[Token], usize, &mut Cursor) -> Result<TypeName, Faul
         ensures { Reads (closed_type (kinds_of self.now.suffixes.tokens.now) self.now.suffixes.depth place.old) result place.new }
     {
         let named = self.types(place)?;
-        close_round(self.suffixes.tokens, place)?;
+        let (named, _) = keeping(named, close_round(self.suffixes.tokens, place))?;
         Ok(named)
     }
 }
@@ -83,7 +84,7 @@ impl<'t, R: Fn(Global, &[Token], usize, u8, &mut Cursor) -> Result<Expression, F
         ensures { Reads (closed_expression (kinds_of self.now.suffixes.tokens.now) self.now.suffixes.depth place.old) result place.new }
     {
         let inner = self.suffixes.read(self.suffixes.depth, 0, place)?;
-        close_round(self.suffixes.tokens, place)?;
+        let (inner, _) = keeping(inner, close_round(self.suffixes.tokens, place))?;
         Ok(inner)
     }
 
@@ -219,11 +220,10 @@ impl<
         requires types { ReadsPart readers.types self.now.suffixes.depth (T.pre self.now.types) (T.post self.now.types) }
         ensures { Reads (cast (kinds_of self.now.suffixes.tokens.now) self.now.suffixes.depth least at place.old) result place.new }
     {
-        let type_name = Boxed::new(self.suffixes.alloc, self.closed_type(place)?)?;
-        let operand = Boxed::new(
-            self.suffixes.alloc,
-            self.suffixes.read(self.suffixes.depth, CAST, place)?,
-        )?;
+        let type_name = self.closed_type(place)?;
+        let operand = self.suffixes.read(self.suffixes.depth, CAST, place);
+        let (type_name, operand) = keeping(type_name, operand)?;
+        let (type_name, operand) = pair(self.suffixes.alloc, type_name, operand)?;
         let whole = Expression::Cast {
             type_name,
             operand,

@@ -1,5 +1,3 @@
-pub mod Prefixed
-pub mod DeclarationEnds
-pub mod StatementKnots
-pub mod StatementLists
+pub mod ExternalEnds
+pub mod Texts
 pub mod WholeTexts

@@ -10,8 +10,7 @@ use Rattle.c_grammar.specs.Reader.{Refuses}
 use Rattle.c_grammar.specs.ReadText.{text}
 use Rattle.c_parser.specs.declared.parser.ParseFault.{ParseFault}
 use Rattle.c_parser.specs.declared.parser.ParseFault.TheVariants as fault
-use Rattle.c_parser.specs.Parses.{left_out, IsFirstTooDeep, IsWithin, SpellsNone, IsWhole}
-use Rattle.c_parser.specs.Runs.{ReadsText}
+use Rattle.c_parser.specs.Parses.{left_out, IsFirstTooDeep, IsWithin, SpellsNone, IsWhole, ReadsText}
 
 pub spelled : (law : ReadsWhatIsSpelled) (tokens : List Token) (externals : List External) → ReadsText (text (kinds_of tokens)) (Ok externals)
     → Spells tokens (record { externals = externals })

@@ -2,9 +2,13 @@
 use Rattle.std.specs.Prelude.{◌≡◌, ℕ, List, Option, None, Result, Ok, Err, position}
 use Rattle.c_model.specs.declared.token.Token.{Token}
 use Rattle.c_tree.specs.declared.declaration.Tree.{Tree}
+use Rattle.c_tree.specs.Places.{Place}
 use Rattle.c_tree.specs.Nesting.{is_left_out, IsFirstDeeper}
 use Rattle.c_tree.specs.SpellsText.{kinds_of, Spells}
-use Rattle.c_parser.specs.declared.nesting.TheConstants.{LIMIT}
+use Rattle.c_grammar.specs.Reader.{Outcome, Gives, Refuses}
+use Rattle.c_marks.specs.declared.fault.Fault.{Fault}
+use Rattle.c_marks.specs.declared.fault.Fault.TheVariants as reading
+use Rattle.c_nesting.specs.declared.nesting.TheConstants.{LIMIT}
 use Rattle.c_parser.specs.declared.parser.ParseFault.{ParseFault}
 use Rattle.c_parser.specs.declared.parser.ParseFault.TheVariants.{LeftOut, TooDeep, Syntax, NoMemory}
 
@@ -31,3 +35,9 @@ IsWhole tokens (Err (LeftOut at)) = ⊥
 IsWhole tokens (Err (TooDeep at)) = ⊥
 IsWhole tokens (Err (Syntax at)) = SpellsNone tokens
 IsWhole tokens (Err NoMemory) = Unit {0}
+
+-- the outcome, wherever it ends, unless memory is refused
+abbrev pub ReadsText : {A : Type 0} → Outcome A → Result A Fault → Type 0
+ReadsText outcome (Ok x) = (q : Place) × (outcome ≡ Gives x q)
+ReadsText outcome (Err (reading.Syntax at)) = outcome ≡ Refuses
+ReadsText outcome (Err reading.NoMemory) = Unit {0}

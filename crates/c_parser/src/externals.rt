@@ -8,13 +8,13 @@ ghost use Rattle.c_grammar.specs.ReadStatements.{declaration, block, statement, 
 ghost use Rattle.c_grammar.specs.ReadStatements as statements;
 ghost use Rattle.c_grammar.specs.Reader.{and_then};
 ghost use Rattle.c_marks.specs.Reads.{Reads, specified_of, titled_of};
-ghost use Rattle.c_parser.specs.Runs.{ReadsText};
+ghost use Rattle.c_parser.specs.Parses.{ReadsText};
 
-use crate::declarations::{declarator, declared_after, further_names};
-use crate::statements::block_items;
+use c_declarations::{declarator, declared_after, further_names};
 use c_expressions::{Fault, Mark, Specified, Titled, grammar, mark_at, refuse, take};
 use c_model::Token;
 use c_scopes::{Block, Cursor};
+use c_statements::block_items;
 use c_tree::{Declaration, DeclaredNames, External, Externals, Specifier};
 use kv_base::Stack;
 use sqlite_items::Items;
@@ -92,7 +92,7 @@ fn external_after(
 ) -> Result<External, Fault>
     ensures { Reads (spec.external_after (kinds_of tokens.now) depth (specified_of specified) place.old) result place.new }
 {
-    if mark_at(tokens, place) == Mark::Semicolon {
+    if let Mark::Semicolon = mark_at(tokens, place) {
         let at = place.at();
         place.skip();
         return Ok(External::Declared {
@@ -118,10 +118,10 @@ fn external_named(
 ) -> Result<External, Fault>
     ensures { let kinds = kinds_of tokens.now in Reads (spec.external_by kinds depth specified.defines specified.list (titled_of titled) place.old (mark_at kinds place.old)) result place.new }
 {
-    if mark_at(tokens, place) == Mark::CurlyOpens {
-        return defined(alloc, tokens, depth, specified, titled, place);
+    match mark_at(tokens, place) {
+        Mark::CurlyOpens => defined(alloc, tokens, depth, specified, titled, place),
+        _ => external_declared(alloc, tokens, depth, specified, titled, place),
     }
-    external_declared(alloc, tokens, depth, specified, titled, place)
 }
 
 /// An external declaration (6.9).
@@ -133,7 +133,7 @@ fn external(
 ) -> Result<External, Fault>
     ensures { Reads (spec.external (kinds_of tokens.now) depth place.old) result place.new }
 {
-    if mark_at(tokens, place) == Mark::Semicolon {
+    if let Mark::Semicolon = mark_at(tokens, place) {
         let at = place.at();
         place.skip();
         return Ok(External::Empty { at });

@@ -5,10 +5,10 @@ ghost use Rattle.c_tree.specs.SpellsText.{Spells};
 ghost use Rattle.c_parser.specs.Parses.{left_out, IsFirstTooDeep, IsWithin, SpellsNone, IsWhole};
 
 use crate::externals::text;
-use crate::nesting::{first_left_out, first_too_deep};
 use c_expressions::Fault;
 use c_grammar::laws::one_tree;
 use c_model::{Token, Tokens};
+use c_nesting::{first_left_out, first_too_deep};
 use c_tree::Tree;
 use kv_base::NoMemory;
 use std::alloc::Global;

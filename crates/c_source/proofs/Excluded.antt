@@ -9,7 +9,7 @@ use Rattle.c_tree.specs.declared.declaration.Tree.{Tree}
 use Rattle.c_tree.specs.Nesting.{depth_after}
 use Rattle.c_tree.specs.SpellsText.{kinds_of, Spells}
 use Rattle.c_grammar.specs.Laws.{OneTree}
-use Rattle.c_parser.specs.declared.nesting.TheConstants.{LIMIT}
+use Rattle.c_nesting.specs.declared.nesting.TheConstants.{LIMIT}
 use Rattle.c_parser.specs.Parses.{left_out, IsFirstTooDeep, IsWithin}
 use Rattle.c_straight.specs.Straight.{IsStraight}
 use Rattle.c_source.specs.declared.refusal.Refusal.{Refusal}

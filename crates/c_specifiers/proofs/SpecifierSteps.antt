@@ -1,29 +1,23 @@
 -- Specifiers, part by part.
-use Rattle.std.proofs.Common.{◌≡◌, ℕ, zero, suc, ◌+◌, ◌-◌, ◌<◌, ◌≤◌, Bool, true, false, List, [], ◌∷◌, ◌++◌, Option, Some, None, Result, refl, sym, subst, ◌∙◌, ap, append_assoc, arith}
+use Rattle.std.proofs.Common.{◌≡◌, ℕ, ◌+◌, ◌-◌, ◌<◌, ◌≤◌, Bool, true, false, List, [], ◌∷◌, ◌++◌, Option, Some, None, Result, refl, sym, subst, ◌∙◌, ap, append_assoc, arith}
 use Rattle.c_model.specs.declared.token.TokenKind.{TokenKind}
 use Rattle.c_model.specs.declared.token.TokenKind.TheVariants as token
 use Rattle.c_tree.specs.declared.expression.Specifier.{Specifier}
 use Rattle.c_tree.specs.declared.expression.Specifier.TheVariants as specifier_node
-use Rattle.c_tree.specs.declared.expression.Member.TheVariants as member_node
-use Rattle.c_tree.specs.declared.expression.EnumConstant.{EnumConstant}
-use Rattle.c_tree.specs.declared.expression.EnumConstant.TheVariants as constant_node
-use Rattle.c_tree.specs.declared.expression.Declarator.{Declarator}
-use Rattle.c_tree.specs.declared.scope.Entry.{Entry}
-use Rattle.c_tree.specs.Places.{Place, next, declare}
+use Rattle.c_tree.specs.Places.{Place, next}
 use Rattle.c_tree.specs.Spells.{Role, Defines, Types, Modifies, types_now, defines_now}
 use Rattle.c_marks.specs.declared.fault.Fault.{Fault}
 use Rattle.c_marks.specs.declared.marks.Mark.TheVariants as mark
 use Rattle.c_marks.specs.Bare.{bare}
-use Rattle.c_marks.specs.Reads.{Reads, ReadsAs, name_read}
+use Rattle.c_marks.specs.Reads.{ReadsAs, name_read}
 use Rattle.c_marks.specs.Parts.{lines_at, constants_at}
-use Rattle.c_specifiers.specs.Specifiers.{structure, enumeration, at_number, typedef_name, word_specifier, specifier_at, decorated_specifier, further_at}
-use Rattle.c_grammar.specs.Kinds.{kind_at, Start, Word, TypedefName, NoStart, start, is_start, begins_type}
+use Rattle.c_specifiers.specs.Specifiers.{structure, enumeration, at_number, word_specifier, specifier_at, decorated_specifier, further_at}
+use Rattle.c_grammar.specs.Kinds.{kind_at, start, is_start, begins_type}
 use Rattle.c_grammar.specs.Marks as spec
 use Rattle.c_grammar.specs.Marks.{Mark, mark_of, mark_at}
 use Rattle.c_grammar.specs.Reader.{Outcome, Gives, Refuses, and_then}
 use Rattle.c_grammar.specs.ReadTypes as types
 use Rattle.c_grammar.specs.ReadTypes.{Specific, Plays, Specified, Specifies, Titled, Titles, Skips, ReadsSpecifiers, attributes, is_further, goes_further, joined, further_by, further_after, further}
-use Rattle.c_grammar.specs.Readers.{read, declarator}
 use Rattle.c_marks.proofs.Lists.{one_further}
 use Rattle.c_marks.proofs.Lists.{then_both}
 use Rattle.c_marks.proofs.Single.{name_of, name_marked}

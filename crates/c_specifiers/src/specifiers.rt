@@ -12,6 +12,7 @@ ghost use Rattle.c_marks.specs.Reads.{Reads, ReadsAs, specified_of};
 ghost use Rattle.c_marks.specs.Parts.{ReadsPart, lines_at, constants_at};
 ghost use Rattle.c_specifiers.specs.Specifiers.{role_of, specific_of, structure, enumeration, at_number, typedef_name, word_specifier, specifier_at, decorated_specifier, further_at};
 
+use c_boxes::keeping;
 use c_marks::{Fault, Mark, Specified, attributes, begins_type, mark_at, name, refuse, take};
 use c_model::{Token, TokenKind};
 use c_scopes::Cursor;
@@ -212,7 +213,7 @@ impl<
     {
         place.skip();
         let lines = self.lines(place)?;
-        take(self.tokens, Mark::CurlyCloses, place)?;
+        let (lines, _) = keeping(lines, take(self.tokens, Mark::CurlyCloses, place))?;
         Ok(types(Specifier::Struct { tag, lines, at }))
     }
 
@@ -271,7 +272,7 @@ impl<
     {
         place.skip();
         let constants = self.constants(place)?;
-        take(self.tokens, Mark::CurlyCloses, place)?;
+        let (constants, _) = keeping(constants, take(self.tokens, Mark::CurlyCloses, place))?;
         Ok(types(Specifier::Enum { tag, constants, at }))
     }
 
@@ -334,7 +335,8 @@ impl<
         ensures { ReadsAs specific_of (decorated_specifier (kinds_of self.now.tokens.now) self.now.depth limit typed place.old) result place.new }
     {
         let specific = self.specifier(typed, place)?;
-        attributes(self.alloc, self.tokens, limit, place)?;
+        let behind = attributes(self.alloc, self.tokens, limit, place);
+        let (specific, _) = keeping(specific, behind)?;
         Ok(specific)
     }
 

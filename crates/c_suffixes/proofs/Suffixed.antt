@@ -7,8 +7,8 @@ use Rattle.c_tree.specs.Places.{Place, next}
 use Rattle.c_tree.specs.Signs.{level}
 use Rattle.c_grammar.specs.declared.kinds.Suffix.{Suffix}
 use Rattle.c_grammar.specs.declared.kinds.Suffix.TheVariants.{Infix, Assigns, Asks, Commas, Subscripts, Calls, Selects, Points, Steps, ClosesRound, ClosesSquare, Colons, NoSuffix}
-use Rattle.c_grammar.specs.Kinds.{kind_at, suffix, Prefix, Names, prefix}
-use Rattle.c_grammar.specs.Reader.{Outcome, Gives, Refuses, and_then, where_round, where_square, where_colon, where_name, Reader, Continues, Lists, call_of, choice_of, suffix_taken}
+use Rattle.c_grammar.specs.Kinds.{kind_at, suffix, prefix}
+use Rattle.c_grammar.specs.Reader.{Gives, and_then, where_round, where_square, Reader, Continues, Lists, call_of, choice_of, suffix_taken}
 use Rattle.c_suffixes.specs.Suffixed.{stop}
 use Rattle.c_marks.proofs.Lists.{then_both}
 use Rattle.c_marks.proofs.Single.{round_both, square_both, colon_both, name_both}

@@ -1,6 +1,6 @@
 //! What stands behind an operand, by the levels of the operators (C11 6.5).
 
-ghost use Rattle.std.specs.Prelude.{◌≡◌, ◌≤◌, ◌<◌, [], ◌∷◌, IfOk};
+ghost use Rattle.std.specs.Prelude.{◌≡◌, ◌≤◌, ◌<◌, [], IfOk};
 ghost use Rattle.c_tree.specs.SpellsText.{kinds_of};
 ghost use Rattle.c_tree.specs.declared.expression.Expression.TheVariants as tree;
 ghost use Rattle.c_grammar.specs.declared.kinds.Suffix.TheVariants as Suffix;
@@ -10,6 +10,7 @@ ghost use Rattle.c_marks.specs.Reads.{Reads, IsSuffix};
 ghost use Rattle.c_marks.specs.Parts.{ReadsExpressions};
 ghost use Rattle.c_suffixes.specs.Suffixed.{stop, suffixed};
 
+use c_boxes::{beside, keeping, pair, triple, with_first};
 use c_grammar::{ASSIGNMENT, CONDITIONAL, Suffix, level};
 use c_marks::{Fault, close_round, close_square, colon, name, refuse, suffix};
 use c_model::Token;
@@ -28,25 +29,13 @@ fn conditional(
 ) -> Result<Expression, NoMemory>
     ensures { IfOk result (λ made. made ≡ tree.Conditional test taken otherwise at) }
 {
+    let (test, then, otherwise) = triple(alloc, test, taken, otherwise)?;
     Ok(Expression::Conditional {
-        test: Boxed::new(alloc, test)?,
-        then: Boxed::new(alloc, taken)?,
-        otherwise: Boxed::new(alloc, otherwise)?,
+        test,
+        then,
+        otherwise,
         at,
     })
-}
-
-fn with_first(
-    alloc: Global,
-    first: Expression,
-    further: Items<Expression>,
-) -> Result<Items<Expression>, NoMemory>
-    ensures { IfOk result (λ made. made ≡ first ∷ further) }
-{
-    let mut parts = Items::new(alloc);
-    parts.push(first)?;
-    parts.append(further)?;
-    Ok(parts)
 }
 
 /// The rules of what stands behind an operand, with what reads the expressions inside.
@@ -105,11 +94,12 @@ impl<'t, R: Fn(Global, &[Token], usize, u8, &mut Cursor) -> Result<Expression, F
     {
         let at = place.at();
         place.skip();
-        let right = self.read(depth, level(operator) + 1, place)?;
+        let (left, right) = keeping(left, self.read(depth, level(operator) + 1, place))?;
+        let (left, right) = pair(self.alloc, left, right)?;
         Ok(Expression::Binary {
             operator,
-            left: Boxed::new(self.alloc, left)?,
-            right: Boxed::new(self.alloc, right)?,
+            left,
+            right,
             at,
         })
     }
@@ -128,11 +118,12 @@ impl<'t, R: Fn(Global, &[Token], usize, u8, &mut Cursor) -> Result<Expression, F
     {
         let at = place.at();
         place.skip();
-        let value = self.read(depth, ASSIGNMENT, place)?;
+        let (target, value) = keeping(target, self.read(depth, ASSIGNMENT, place))?;
+        let (target, value) = pair(self.alloc, target, value)?;
         Ok(Expression::Assign {
             operator,
-            target: Boxed::new(self.alloc, target)?,
-            value: Boxed::new(self.alloc, value)?,
+            target,
+            value,
             at,
         })
     }
@@ -150,7 +141,7 @@ impl<'t, R: Fn(Global, &[Token], usize, u8, &mut Cursor) -> Result<Expression, F
     {
         let at = place.at();
         place.skip();
-        let taken = self.read(depth, 0, place)?;
+        let (test, taken) = keeping(test, self.read(depth, 0, place))?;
         self.choice(depth, test, at, taken, place)
     }
 
@@ -168,8 +159,8 @@ impl<'t, R: Fn(Global, &[Token], usize, u8, &mut Cursor) -> Result<Expression, F
         requires within { depth ≤ self.now.depth }
         ensures { let kinds = kinds_of self.now.tokens.now in Reads (spec.choice_of kinds (readers.read kinds depth) stop 0 test (record { at = at; blocks = [] }) taken place.old) result place.new }
     {
-        colon(self.tokens, place)?;
-        let otherwise = self.read(depth, CONDITIONAL, place)?;
+        let (parts, _) = keeping((test, taken), colon(self.tokens, place))?;
+        let ((test, taken), otherwise) = keeping(parts, self.read(depth, CONDITIONAL, place))?;
         Ok(conditional(self.alloc, test, taken, otherwise, at)?)
     }
 
@@ -186,7 +177,7 @@ impl<'t, R: Fn(Global, &[Token], usize, u8, &mut Cursor) -> Result<Expression, F
     {
         let at = place.at();
         place.skip();
-        let further = self.items(depth, place)?;
+        let (first, further) = keeping(first, self.items(depth, place))?;
         let parts = with_first(self.alloc, first, further)?;
         Ok(Expression::Comma { parts, at })
     }
@@ -205,13 +196,10 @@ impl<'t, R: Fn(Global, &[Token], usize, u8, &mut Cursor) -> Result<Expression, F
     {
         let at = place.at();
         place.skip();
-        let index = self.read(depth, 0, place)?;
-        close_square(self.tokens, place)?;
-        Ok(Expression::Subscript {
-            array: Boxed::new(self.alloc, array)?,
-            index: Boxed::new(self.alloc, index)?,
-            at,
-        })
+        let (array, index) = keeping(array, self.read(depth, 0, place))?;
+        let ((array, index), _) = keeping((array, index), close_square(self.tokens, place))?;
+        let (array, index) = pair(self.alloc, array, index)?;
+        Ok(Expression::Subscript { array, index, at })
     }
 
     #[tactic(auto, using(c_marks::proofs::Single::round_then))]
@@ -239,8 +227,11 @@ impl<'t, R: Fn(Global, &[Token], usize, u8, &mut Cursor) -> Result<Expression, F
                 })
             }
             _ => {
-                let arguments = self.items(depth, place)?;
-                close_round(self.tokens, place)?;
+                let (function, arguments) = keeping(function, self.items(depth, place))?;
+                let ((function, arguments), _) = keeping(
+                    (function, arguments),
+                    close_round(self.tokens, place),
+                )?;
                 Ok(Expression::Call {
                     function,
                     arguments,
@@ -262,12 +253,9 @@ impl<'t, R: Fn(Global, &[Token], usize, u8, &mut Cursor) -> Result<Expression, F
     {
         let at = place.at();
         place.skip();
-        let name = name(self.alloc, self.tokens, place)?;
-        Ok(Expression::Member {
-            object: Boxed::new(self.alloc, object)?,
-            name,
-            at,
-        })
+        let (object, name) = keeping(object, name(self.alloc, self.tokens, place))?;
+        let (object, name) = beside(self.alloc, object, name)?;
+        Ok(Expression::Member { object, name, at })
     }
 
     #[tactic(auto, using(c_marks::proofs::Single::name_then))]
@@ -282,12 +270,9 @@ impl<'t, R: Fn(Global, &[Token], usize, u8, &mut Cursor) -> Result<Expression, F
     {
         let at = place.at();
         place.skip();
-        let name = name(self.alloc, self.tokens, place)?;
-        Ok(Expression::PointedMember {
-            pointer: Boxed::new(self.alloc, pointer)?,
-            name,
-            at,
-        })
+        let (pointer, name) = keeping(pointer, name(self.alloc, self.tokens, place))?;
+        let (pointer, name) = beside(self.alloc, pointer, name)?;
+        Ok(Expression::PointedMember { pointer, name, at })
     }
 
     fn stepped(

@@ -1,9 +1,8 @@
 use Rattle.std.proofs.Common.{rules, arith}
 use Rattle.c_tree.specs.SpellsText.{kinds_of}
 use Rattle.c_grammar.specs.ReadText.{external, externals}
-use Rattle.c_parser.proofs.Prefixed.{refused}
-use Rattle.c_parser.proofs.StatementKnots.{refuses}
-use Rattle.c_parser.proofs.StatementLists.{externals_begin, externals_ends, externals_close, externals_fail, externals_go_on}
+use Rattle.c_declarations.proofs.Faults.{refused, refuses}
+use Rattle.c_parser.proofs.Texts.{externals_begin, externals_ends, externals_close, externals_fail, externals_go_on}
 use Rattle.c_parser.proofs.externals.externals.Goals as goal
 
 pub loop-turn-init : goal.loop-turn-init

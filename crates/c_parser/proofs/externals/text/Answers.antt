@@ -1,5 +1,5 @@
 use Rattle.std.proofs.Common.{rules}
-use Rattle.c_parser.proofs.StatementLists.{text_read}
+use Rattle.c_parser.proofs.Texts.{text_read}
 use Rattle.c_parser.proofs.externals.text.Goals as goal
 
 pub returns : goal.returns

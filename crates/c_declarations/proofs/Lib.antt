@@ -1,0 +1,4 @@
+pub mod Faults
+pub mod Commas
+pub mod Initialisers
+pub mod DeclarationEnds

@@ -1,0 +1,2 @@
+pub mod Knots
+pub mod Blocks

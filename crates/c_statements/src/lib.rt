@@ -1,0 +1,6 @@
+//! The reader of statements.
+#![tactic(auto)]
+
+mod statements;
+
+pub use statements::block_items;
