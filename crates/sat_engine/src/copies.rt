@@ -170,6 +170,7 @@ impl Copies {
             }
         }
     }
+
     // Has a watched literal and one from `first` on stand in each other's place, and gives that one.
     fn exchange(&mut self, seat: usize, first: usize, at: usize) -> u32 {
         let place = first.saturating_add(at);
