@@ -79,10 +79,11 @@ impl Tiers {
         alloc: Global,
         origin: Origin,
         clause: u32,
+        lits: &[u32],
         one: u32,
         two: u32,
     ) -> Result<(), NoMemory> {
-        self.tiers[0].watches.add(clause, one, two)?;
+        self.tiers[0].watches.add(clause, lits, one, two)?;
         if origin == Origin::Learnt {
             self.note_use(clause)?;
             self.tiers[0].learnt.push(clause)?;
@@ -109,7 +110,7 @@ impl Tiers {
     {
         for clause in mem::replace(&mut self.tiers[tier].learnt, Vec::new(alloc)) {
             if self.age_of(clause) > PATIENCE[tier] {
-                self.move_on(tier, clause)?;
+                self.move_to(alloc, tier, tier + 1, clause)?;
             } else {
                 self.tiers[tier].learnt.push(clause)?;
             }
@@ -123,15 +124,25 @@ impl Tiers {
         self.now.saturating_sub(used)
     }
 
-    fn move_on(&mut self, tier: usize, clause: u32) -> Result<(), NoMemory>
-        requires { tier < 2 }
+    /// Moves a clause, if it is in the one tier, to the other.
+    fn move_to(
+        &mut self,
+        alloc: Global,
+        from: usize,
+        to: usize,
+        clause: u32,
+    ) -> Result<(), NoMemory>
+        requires from { from < 3 }
+        requires to { to < 3 }
     {
-        let Some((one, two)) = self.tiers[tier].watches.watched(clause) else {
+        let mut lits = Vec::new(alloc);
+        lits.extend_from_slice(self.tiers[from].watches.literals_of(clause))?;
+        let [one, two, ..] = lits.as_slice() else {
             return Ok(());
         };
-        self.tiers[tier].watches.forget(clause);
-        self.tiers[tier + 1].watches.add(clause, one, two)?;
-        self.tiers[tier + 1].learnt.push(clause)?;
+        self.tiers[from].watches.forget(clause);
+        self.tiers[to].watches.add(clause, &lits, *one, *two)?;
+        self.tiers[to].learnt.push(clause)?;
         Ok(())
     }
 
@@ -147,16 +158,10 @@ impl Tiers {
     }
 
     /// Brings a clause that is used back to the first tier.
-    fn recall(&mut self, clause: u32) -> Result<(), NoMemory> {
+    fn recall(&mut self, alloc: Global, clause: u32) -> Result<(), NoMemory> {
         self.note_use(clause)?;
-        for tier in 1..3 {
-            if let Some((one, two)) = self.tiers[tier].watches.watched(clause) {
-                self.tiers[tier].watches.forget(clause);
-                self.tiers[0].watches.add(clause, one, two)?;
-                self.tiers[0].learnt.push(clause)?;
-            }
-        }
-        Ok(())
+        self.move_to(alloc, 1, 0, clause)?;
+        self.move_to(alloc, 2, 0, clause)
     }
 
     /// Marks the places of a clause's literals.
@@ -183,19 +188,20 @@ impl Tiers {
     /// Recalls the clauses that lead from the literals before `base` to the false clause.
     fn recall_all(
         &mut self,
+        alloc: Global,
         store: &Store,
         trail: &Trail,
         base: usize,
         conflict: u32,
     ) -> Result<(), NoMemory> {
-        self.recall(conflict)?;
+        self.recall(alloc, conflict)?;
         self.mark(store, trail, conflict);
         for place in (base..trail.steps.len()).rev() {
             if !self.unmark(place) {
                 continue;
             }
             if let Reason::Clause(clause) = trail.steps[place].reason {
-                self.recall(clause)?;
+                self.recall(alloc, clause)?;
                 self.mark(store, trail, clause);
             }
         }
@@ -265,7 +271,7 @@ impl Tiers {
     {
         let found = self.seek(alloc, store, trail, from)?;
         if let Some(clause) = found {
-            self.recall_all(store, trail, from, clause)?;
+            self.recall_all(alloc, store, trail, from, clause)?;
         }
         Ok(found)
     }

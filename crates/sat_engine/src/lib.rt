@@ -5,6 +5,7 @@
 //! that it reports false; whoever has to know that nothing is left to propagate looks at each clause.
 #![tactic(auto)]
 
+mod copies;
 mod literal;
 mod look;
 mod propagation;

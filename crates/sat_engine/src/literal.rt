@@ -6,5 +6,5 @@ ghost use Rattle.kv_clause.specs.Literals.{complement_of};
 pub fn complement(lit: u32) -> u32
     ensures { result ≡ complement_of lit }
 {
-    if lit % 2 == 0 { lit + 1 } else { lit - 1 }
+    2 * (lit / 2) + (1 - lit % 2)
 }

@@ -15,6 +15,14 @@ pub enum Seen {
     False,
 }
 
+/// Whether the literal is set true.
+pub fn is_true(truth: &[bool], lit: u32) -> bool {
+    match truth.get(lit as usize) {
+        Some(b) => *b,
+        None => false,
+    }
+}
+
 /// Whether a literal of the clause other than `other` is not false.
 pub fn look_at(clause: &[u32], truth: &[bool], other: u32) -> Seen
     requires range { InRange clause.now (length truth.now) }

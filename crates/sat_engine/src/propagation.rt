@@ -5,20 +5,14 @@ ghost use Rattle.kv_clause.specs.Propagation.{clause_at};
 ghost use Rattle.sat_engine.specs.Look.{AreInRange, AreFalse, AreFalseBut};
 ghost use Rattle.sat_engine.specs.Grow.{Grows};
 
+use crate::copies::Look;
 use crate::literal::complement;
-use crate::look::{Seen, look_at};
+use crate::look::{Seen, is_true, look_at};
 use crate::store::Store;
 use crate::trail::{Reason, Trail};
 use crate::watch::{Watch, Watches};
 use kv_base::NoMemory;
 use std::alloc::Global;
-
-fn is_true(truth: &[bool], lit: u32) -> bool {
-    match truth.get(lit as usize) {
-        Some(b) => *b,
-        None => false,
-    }
-}
 
 /// Sets a literal true whose clause is false otherwise. True where that fails.
 pub fn imply(store: &Store, trail: &mut Trail, clause: u32, lit: u32) -> Result<bool, NoMemory>
@@ -40,6 +34,23 @@ pub fn imply(store: &Store, trail: &mut Trail, clause: u32, lit: u32) -> Result<
     Ok(false)
 }
 
+// Sets a literal true where the clause itself says that all its others are false. True where that fails.
+fn infer(store: &Store, trail: &mut Trail, clause: u32, lit: u32) -> Result<bool, NoMemory>
+    requires range { AreInRange store.now (length trail.old.truth.items) }
+    ensures grows { Grows store.now trail.old.steps.items trail.new.steps.items }
+    ensures size { length trail.new.truth.items ≡ length trail.old.truth.items }
+    ensures conflict { result ≡ Ok true → (clause < length store.now) × AreFalse (clause_at store.now clause) trail.new.truth.items }
+{
+    if clause as usize >= store.len() {
+        return Ok(false);
+    }
+    match look_at(store.get(clause as usize), &trail.truth, lit) {
+        Seen::Open(_) => Ok(false),
+        Seen::False => Ok(true),
+        Seen::Unit => imply(store, trail, clause, lit),
+    }
+}
+
 /// Propagates the false literal `lit` through the clauses that watch it.
 fn visit(
     store: &Store,
@@ -56,31 +67,24 @@ fn visit(
     let mut i = 0;
     while i < list.len() {
         let watch = list[i];
-        if is_true(&trail.truth, watch.blocker) || watch.clause as usize >= store.len() {
+        if is_true(&trail.truth, watch.blocker) {
             i += 1;
             continue;
         }
-        let Some(other) = watches.other(watch.clause, lit) else {
-            let _forgotten = list.swap_remove(i);
-            continue;
-        };
-        if is_true(&trail.truth, other) {
-            list[i] = Watch {
-                clause: watch.clause,
-                blocker: other,
-            };
-            i += 1;
-            continue;
-        }
-        match look_at(store.get(watch.clause as usize), &trail.truth, other) {
-            Seen::Open(m) => {
-                watches.rewatch(watch.clause, other, m)?;
-                let _moved = list.swap_remove(i);
+        match watches.look(watch, lit, &trail.truth)? {
+            Look::Gone | Look::Moved { .. } => {
+                let _left = list.swap_remove(i);
             }
-            Seen::False => return Ok(Some(watch.clause)),
-            Seen::Unit => {
-                if imply(store, trail, watch.clause, other)? {
-                    return Ok(Some(watch.clause));
+            Look::True(other) => {
+                list[i] = Watch {
+                    place: watch.place,
+                    blocker: other,
+                };
+                i += 1;
+            }
+            Look::Left { clause, other } => {
+                if infer(store, trail, clause, other)? {
+                    return Ok(Some(clause));
                 }
                 i += 1;
             }

@@ -1,3 +1,4 @@
+use crate::copies::Look;
 use crate::{Reason, Seen, Store, Trail, Watches, complement, look_at};
 use std::process::Abort;
 use std::test::Fail;
@@ -32,13 +33,19 @@ fn a_watch_has_another_literal(rt: HostRuntime) -> Result<(), Fail> {
     let mut watches = Watches::new(alloc);
     watches.widen(alloc)?;
     watches.widen(alloc)?;
-    watches.add(0, complement(1), 3)?;
-    watches.skip()?;
-    assert!(rt; watches.other(0, 3) == Some(0));
-    assert!(rt; watches.watched(0) == Some((0, 3)));
-    watches.rewatch(0, 3, 1)?;
+    watches.add(0, &[3, 1, 0], 0, 3)?;
+    assert!(rt; watches.is_watched(0) && !watches.is_watched(1));
+    assert!(rt; watches.literals_of(0) == [0u32, 3, 1].as_slice());
+    for watch in watches.take(alloc, 3) {
+        let look = watches.look(watch, 3, &[false, false, true, false])?;
+        assert!(rt; matches!(look, Look::Moved { to: 1, other: 0 }));
+    }
     let list = watches.take(alloc, 1);
     assert!(rt; list.len() == 1);
     watches.put_back(1, list);
+    watches.forget(0);
+    watches.add(1, &[0, 3], 3, 0)?;
+    assert!(rt; watches.take(alloc, 1).is_empty());
+    assert!(rt; watches.literals_of(1) == [3u32, 0].as_slice());
     Ok(())
 }

@@ -1,29 +1,41 @@
+use crate::copies::{Copies, Look, Moves};
 use kv_base::NoMemory;
 use std::alloc::Global;
 use std::mem;
 
-/// A clause that watches a literal, and another literal of it: while that one is true, the clause isn't looked at.
+/// Where the copy of a clause that watches a literal begins, and another literal of it: while that one is true, the
+/// clause isn't looked at.
 #[derive(Clone, Copy, Debug)]
 pub struct Watch {
-    pub clause: u32,
+    pub place: u32,
     pub blocker: u32,
 }
 
-/// The two literals that a clause watches, or `NOTHING` twice.
-#[derive(Clone, Copy, Debug)]
-struct Pair {
-    one: u32,
-    two: u32,
-}
-
-/// No literal.
-const NOTHING: u32 = u32::MAX;
-
-/// Which clauses watch each literal. No proof rests on it.
+/// Which clauses watch each literal, with a copy of each of them. No proof rests on it.
 #[derive(Drop)]
 pub struct Watches {
     lists: Vec<Vec<Watch>>,
-    pairs: Vec<Pair>,
+    copies: Copies,
+}
+
+// Follows the copies to where they went, and drops what watches for one that is gone.
+fn follow(list: &mut Vec<Watch>, moves: &Moves) {
+    let mut i = 0;
+    while i < list.len() {
+        let watch = list[i];
+        match moves.to(watch.place) {
+            Some(place) => {
+                list[i] = Watch {
+                    place,
+                    blocker: watch.blocker,
+                };
+                i += 1;
+            }
+            None => {
+                let _gone = list.swap_remove(i);
+            }
+        }
+    }
 }
 
 impl Watches {
@@ -31,7 +43,7 @@ impl Watches {
     pub fn new(alloc: Global) -> Watches {
         Watches {
             lists: Vec::new(alloc),
-            pairs: Vec::new(alloc),
+            copies: Copies::new(alloc),
         }
     }
 
@@ -42,25 +54,14 @@ impl Watches {
         Ok(())
     }
 
-    /// The literal that the clause watches beside `lit`, if it watches that one.
-    pub fn other(&self, clause: u32, lit: u32) -> Option<u32> {
-        let pair = self.pairs.get(clause as usize)?;
-        if pair.one == lit {
-            Some(pair.two)
-        } else if pair.two == lit {
-            Some(pair.one)
-        } else {
-            None
-        }
+    /// Whether the clause watches two literals.
+    pub fn is_watched(&self, clause: u32) -> bool {
+        self.copies.place_of(clause).is_some()
     }
 
-    /// The two literals that the clause watches.
-    pub fn watched(&self, clause: u32) -> Option<(u32, u32)> {
-        let pair = self.pairs.get(clause as usize)?;
-        if pair.one == NOTHING {
-            return None;
-        }
-        Some((pair.one, pair.two))
+    /// The literals of a clause, those that it watches first, or none where it watches nothing.
+    pub fn literals_of(&self, clause: u32) -> &[u32] {
+        self.copies.literals_of(clause)
     }
 
     fn put(&mut self, lit: u32, watch: Watch) -> Result<(), NoMemory> {
@@ -70,70 +71,55 @@ impl Watches {
         Ok(())
     }
 
-    /// Has the clause watch two of its literals.
-    pub fn add(&mut self, clause: u32, one: u32, two: u32) -> Result<(), NoMemory> {
-        for _ in self.pairs.len()..=clause as usize {
-            self.skip()?;
+    /// Has the clause of these literals watch two of them.
+    pub fn add(&mut self, clause: u32, lits: &[u32], one: u32, two: u32) -> Result<(), NoMemory> {
+        if self.copies.is_due() {
+            self.tidy()?;
         }
-        self.set(clause, Pair { one, two });
+        let place = self.copies.add(clause, lits, one, two)?;
         self.put(
             one,
             Watch {
-                clause,
+                place,
                 blocker: two,
             },
         )?;
         self.put(
             two,
             Watch {
-                clause,
+                place,
                 blocker: one,
             },
         )
     }
 
-    /// Leaves out the next clause.
-    pub fn skip(&mut self) -> Result<(), NoMemory> {
-        self.pairs.push(Pair {
-            one: NOTHING,
-            two: NOTHING,
-        })?;
-        Ok(())
-    }
-
-    fn set(&mut self, clause: u32, pair: Pair) {
-        if let Some(place) = self.pairs.get_mut(clause as usize) {
-            *place = pair;
+    fn tidy(&mut self) -> Result<(), NoMemory> {
+        let moves = self.copies.tidy()?;
+        for list in self.lists.iter_mut() {
+            follow(list, &moves);
         }
+        Ok(())
     }
 
     /// Has the clause watch nothing. What the lists have of it goes when it is met.
     pub fn forget(&mut self, clause: u32) {
-        self.set(
-            clause,
-            Pair {
-                one: NOTHING,
-                two: NOTHING,
-            },
-        );
+        self.copies.remove(clause);
     }
 
-    /// Watches `to` beside `other`. The list that `to` replaces stays with the caller.
-    pub fn rewatch(&mut self, clause: u32, other: u32, to: u32) -> Result<(), NoMemory> {
-        self.set(
-            clause,
-            Pair {
-                one: other,
-                two: to,
-            },
-        );
-        self.put(
-            to,
-            Watch {
-                clause,
-                blocker: other,
-            },
-        )
+    /// Looks at a clause that watches a false literal. Where another literal comes in its place, that one's list has
+    /// the clause from then on, and the false one's is left to the caller.
+    pub fn look(&mut self, watch: Watch, lit: u32, truth: &[bool]) -> Result<Look, NoMemory> {
+        let look = self.copies.look(watch.place, lit, truth);
+        if let Look::Moved { to, other } = look {
+            self.put(
+                to,
+                Watch {
+                    place: watch.place,
+                    blocker: other,
+                },
+            )?;
+        }
+        Ok(look)
     }
 
     /// Takes out what watches the literal.

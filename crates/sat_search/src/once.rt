@@ -37,13 +37,14 @@ fn recall(
 ) -> Result<(), NoMemory>
     requires { number < length store.now }
 {
-    if watches.watched(number).is_some() {
+    if watches.is_watched(number) {
         return Ok(());
     }
-    let Some(other) = latest(store.get(number as usize), lit, place) else {
+    let clause = store.get(number as usize);
+    let Some(other) = latest(clause, lit, place) else {
         return Ok(());
     };
-    watches.add(number, lit, other)?;
+    watches.add(number, clause, lit, other)?;
     guide.recall(number)
 }
 

@@ -125,8 +125,8 @@ pub fn record_clause(
     };
     index.put(clause[under] as usize, entry)?;
     match watched {
-        Some((one, two)) => watches.add(number, one, two)?,
-        None => watches.skip()?,
+        Some((one, two)) => watches.add(number, clause, one, two)?,
+        None => {}
     }
     store.push(clause)?;
     Ok(number)

@@ -13,4 +13,4 @@ returns-in_err-push-clause-err c =
 pub returns-clause-ok : goal.returns-clause-ok
 returns-clause-ok c =
     rw (c.in_ok-push.ensures.items, c.in_ok-extend_from_slice.ensures.items, ← c.self.view_is)
-    (clauses_of-push c.self.inside.lits.items c.args.clause.now c.self.inside.heads.items c.len-start.result c.len-end.result (search rules) (omega (arith, c.in_ok-extend_from_slice.ensures.len, c.len-end.ensures, c.self.inside.lits.ok.0)) c.self.invariant)
+    (clauses_of-push c.self.inside.lits.items c.args.clause.now c.self.inside.heads.items c.in_ok-start.start c.in_ok-end.end (search rules) (search rules) c.self.invariant)
