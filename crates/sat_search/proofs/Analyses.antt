@@ -1,11 +1,12 @@
-use Rattle.std.proofs.Common.{ℕ, ◌≡◌, ◌≢◌, ◌+◌, ◌*◌, ◌/◌, ◌<◌, ◌≤◌, ◌++◌, inl, inr, List, [], ◌∷◌, map, length, get_or, set, Bool, false, None, refl, sym, ap, subst, ◌∙◌, arith}
+use Rattle.std.proofs.Common.{ℕ, ◌≡◌, ◌≢◌, ◌+◌, ◌*◌, ◌/◌, ◌<◌, ◌≤◌, ◌++◌, inl, inr, List, [], ◌∷◌, map, length, get_or, set, Bool, true, false, None, refl, sym, ap, subst, ◌∙◌, arith}
 use Rattle.std.specs.List.{Contains}
 use Rattle.std.proofs.lemmas.Bool.{cases_eq, cases_lt, false≢true}
 use Rattle.std.proofs.lemmas.List.{length-set, length-map, get_or-map, get_or-set_same, get_or-set_other, get_or_default, set_past}
-use Rattle.std.proofs.lemmas.List.Elements.{Contains-push, Contains-append_left, Contains-get_or}
+use Rattle.std.proofs.lemmas.List.Elements.{Contains-push, Contains-append_left, Contains-push_cases, Contains-get_or}
 use Rattle.kv_clause.specs.Literals.{complement_of}
 use Rattle.kv_clause.specs.Propagation.{clause_at, Derived, given, unit}
 use Rattle.kv_clause.proofs.Truths.{complement_twice, complement_variable}
+use Rattle.sat_search.proofs.Marks.{set-cases, set-kept}
 use Rattle.sat_search.proofs.Derivations.{Derived-wider}
 use Rattle.sat_engine.specs.declared.trail.Reason.TheVariants.{Clause}
 use Rattle.sat_engine.specs.declared.trail.Step.{Step}
@@ -13,7 +14,7 @@ use Rattle.sat_engine.specs.Trail.{IsSet, IsTrail, lit_at}
 use Rattle.sat_engine.specs.Look.{AreFalse, AreFalseBut}
 use Rattle.sat_engine.specs.Grow.{IsImplied}
 use Rattle.sat_search.specs.Mark.{IsMarkedAt, IsNext, MarkedAll}
-use Rattle.sat_search.specs.Analysis.{IsSite, IsMarked, IsLearnt}
+use Rattle.sat_search.specs.Analysis.{IsSite, IsMarked, IsLearnt, IsRedundant}
 
 -- a literal and its complement do not both stand in a trail
 pub apart : (steps : List Step) (truth : List Bool) (place : List ℕ) → IsTrail steps truth place → (l : ℕ) → IsSet truth l → IsSet truth (complement_of l) → ⊥
@@ -38,6 +39,16 @@ Contains-map_complement c l w =
 -- the literal of a clause at an index, as one in it
 at_index : (c : List ℕ) (i : ℕ) → i < length c → Contains c (get_or c i 0)
 at_index c i h = Contains-get_or c i 0 h
+
+-- what is set after one was unset was so before
+pub was_set : (old : List Bool) (i v : ℕ) → IsSet (set old i false) v → IsSet old v
+was_set old i v h = elim (cases_eq v i) [
+  | inl e ↦ elim (cases_lt i (length old)) [
+    | inl lt ↦ absurd (false≢true (sym (get_or-set_same old i false false lt) ∙ ap (λ (x : ℕ). get_or (set old i false) x false) (sym e) ∙ h))
+    | inr ge ↦ subst (λ (x : List Bool). IsSet x v) (set_past old i false ge) h
+  ]
+  | inr ne ↦ sym (get_or-set_other old i v false false ne) ∙ h
+]
 
 -- what marking a clause adds
 module _ (F : List (List ℕ)) (steps : List Step) (truth : List Bool) (place : List ℕ) (start floor : ℕ) (site : IsSite F steps truth place start floor) where
@@ -149,15 +160,6 @@ module _ (F : List (List ℕ)) (steps : List Step) (truth : List Bool) (place : 
         ];
       }
     where
-      was_set : (old : List Bool) (i v : ℕ) → IsSet (set old i false) v → IsSet old v
-      was_set old i v h = elim (cases_eq v i) [
-        | inl e ↦ elim (cases_lt i (length old)) [
-          | inl lt ↦ absurd (false≢true (sym (get_or-set_same old i false false lt) ∙ ap (λ (x : ℕ). get_or (set old i false) x false) (sym e) ∙ h))
-          | inr ge ↦ subst (λ (x : List Bool). IsSet x v) (set_past old i false ge) h
-        ]
-        | inr ne ↦ sym (get_or-set_other old i v false false ne) ∙ h
-      ]
-
       not_now : (old : List Bool) (p q : ℕ) → p / 2 < length old → q ≡ p → IsSet (set old (p / 2) false) (q / 2) → ⊥
       not_now old p q lt e h = false≢true (sym (get_or-set_same old (p / 2) false false lt) ∙ ap (λ (x : ℕ). get_or (set old (p / 2) false) (x / 2) false) (sym e) ∙ h)
 
@@ -248,3 +250,76 @@ module _ (F : List (List ℕ)) (steps : List Step) (truth : List Bool) (place : 
           ]
         ],
       )
+
+  -- a literal that follows from what is marked beside it is unmarked
+  pub IsMarked-drop : (top at : ℕ) (marks : List Bool) (low : List ℕ) → IsMarked F truth place floor top marks low → at < length steps → IsRedundant F steps place start marks at → IsMarked F truth place floor top (set marks (lit_at steps at / 2) false) low
+  IsMarked-drop top at marks low m lt r =
+      let p : ℕ = lit_at steps at in
+      let n : ℕ = r.0 in
+      let c : List ℕ = clause_at F n in
+      let p_set : IsSet truth p = (site.trail.on at lt).1 in
+      let p_place : get_or place (p / 2) 0 ≡ at = (site.trail.on at lt).2 in
+      let still : (v : ℕ) → v ≢ p / 2 → IsSet marks v → IsSet (set marks (p / 2) false) v = λ v ne h. get_or-set_other marks (p / 2) v false false ne ∙ h in
+      record {
+        refutes = λ A all. m.refutes A (λ q s h. elim (cases_eq q p) [
+          | inl e ↦ subst (λ (x : ℕ). Derived F A x) (sym e) (unit p n r.1.0 r.1.1 (λ k w ne.
+              let here : get_or c w.0 0 ≡ k = get_or_default c w.0 0 k w.1 ∙ w.2 in
+              let half : get_or c w.0 0 / 2 ≡ complement_of k / 2 = ap (λ (x : ℕ). x / 2) here ∙ sym (complement_variable k) in
+              let k_set : IsSet truth (complement_of k) = others_false at n r.1 lt k w ne in
+              let k_before : get_or place (k / 2) 0 < at = others_before at n r.1 lt k w ne in
+              let off : k / 2 ≢ p / 2 = λ f. let z : get_or place (k / 2) 0 ≡ at = ap (λ (x : ℕ). get_or place x 0) f ∙ p_place in omega arith in
+              elim (r.2 w.0 w.1 (λ f. ne (sym here ∙ f))) [
+                | inl marked ↦ all (complement_of k) k_set (still (complement_of k / 2) (λ f. off (sym (complement_variable k) ∙ f)) (subst (λ (x : ℕ). IsSet marks x) half marked))
+                | inr early ↦ Facts A (complement_of k) k_set (subst (λ (x : ℕ). get_or place x 0 < start) half early)
+              ]))
+          | inr ne ↦ all q s (still (q / 2) (λ e. ne (one_of_two steps truth place site.trail q p s p_set e)) h)
+        ]);
+        below = λ q s h. m.below q s (was_set marks (p / 2) (q / 2) h);
+        low_has = λ q s h k. m.low_has q s (was_set marks (p / 2) (q / 2) h) k;
+        low_false = m.low_false;
+        low_below = m.low_below;
+        room = let f = length-set marks (p / 2) false in let b = m.room in omega arith;
+        only = λ v h. m.only v (was_set marks (p / 2) v h);
+      }
+
+-- a further literal is marked and listed
+pub IsMarked-more : (F : List (List ℕ)) (steps : List Step) (truth : List Bool) (place : List ℕ) (floor top at : ℕ) (marks : List Bool) (low : List ℕ) → IsTrail steps truth place → IsMarked F truth place floor top marks low → at < length steps → at < floor → floor ≤ top
+    → IsMarked F truth place floor top (set marks (lit_at steps at / 2) true) (low ++ complement_of (lit_at steps at) ∷ [])
+IsMarked-more F steps truth place floor top at marks low t m lt under le =
+    let p : ℕ = lit_at steps at in
+    let p_set : IsSet truth p = (t.on at lt).1 in
+    let p_place : get_or place (p / 2) 0 ≡ at = (t.on at lt).2 in
+    let fits : p / 2 < length marks = let a = (t.on at lt).0 in let b = m.room in omega arith in
+    let same : (q : ℕ) → IsSet truth q → p / 2 ≡ q / 2 → p ≡ q = λ q s e. one_of_two steps truth place t p q p_set s e in
+    let here : (v : ℕ) → p / 2 ≡ v → get_or place v 0 < floor = λ v e. subst (λ (x : ℕ). get_or place x 0 < floor) e (omega arith) in
+    record {
+      refutes = λ A all. m.refutes A (λ q s h. all q s (set-kept marks (p / 2) (q / 2) fits h));
+      below = λ q s h. elim (set-cases marks (p / 2) (q / 2) h) [ inl a ↦ m.below q s a | inr e ↦ let z = here (q / 2) e in omega arith ];
+      low_has = λ q s h k. elim (set-cases marks (p / 2) (q / 2) h) [
+        | inl a ↦ Contains-append_left low (complement_of p ∷ []) (complement_of q) (m.low_has q s a k)
+        | inr e ↦ subst (λ (x : ℕ). Contains (low ++ complement_of p ∷ []) (complement_of x)) (same q s e) (Contains-push low (complement_of p))
+      ];
+      low_false = λ l w. elim (Contains-push_cases low (complement_of p) l w) [
+        | inl a ↦ m.low_false l a
+        | inr e ↦ subst (λ (x : ℕ). IsSet truth (complement_of x)) e (subst (λ (x : ℕ). IsSet truth x) (sym (complement_twice p)) p_set)
+      ];
+      low_below = λ l w. elim (Contains-push_cases low (complement_of p) l w) [
+        | inl a ↦ m.low_below l a
+        | inr e ↦ subst (λ (x : ℕ). get_or place (x / 2) 0 < floor) e (here (complement_of p / 2) (sym (complement_variable p)))
+      ];
+      room = let f = length-set marks (p / 2) true in let b = m.room in omega arith;
+      only = λ v h. elim (set-cases marks (p / 2) v h) [ inl a ↦ m.only v a | inr e ↦ (p, e, p_set) ];
+    }
+
+-- only the marked ones are listed
+pub IsMarked-listed : (F : List (List ℕ)) (truth : List Bool) (place : List ℕ) (floor top : ℕ) (marks : List Bool) (low kept : List ℕ) → IsMarked F truth place floor top marks low
+    → ((l : ℕ) → Contains kept l → Contains low l) → ((l : ℕ) → Contains low l → IsSet marks (l / 2) → Contains kept l) → IsMarked F truth place floor top marks kept
+IsMarked-listed F truth place floor top marks low kept m only all = record {
+  refutes = m.refutes;
+  below = m.below;
+  low_has = λ q s h k. all (complement_of q) (m.low_has q s h k) (subst (λ (x : ℕ). IsSet marks x) (sym (complement_variable q)) h);
+  low_false = λ l w. m.low_false l (only l w);
+  low_below = λ l w. m.low_below l (only l w);
+  room = m.room;
+  only = m.only;
+}

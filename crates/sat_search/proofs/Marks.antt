@@ -17,10 +17,10 @@ MarkedOne-same m place start floor old low h = record {
   size = refl;
 }
 
-set-cases : (old : List Bool) (i v : ℕ) → IsSet (set old i true) v → IsSet old v ⊎ (i ≡ v)
+pub set-cases : (old : List Bool) (i v : ℕ) → IsSet (set old i true) v → IsSet old v ⊎ (i ≡ v)
 set-cases old i v h = elim (cases_eq v i) [ inl e ↦ inr (sym e) | inr ne ↦ inl (sym (get_or-set_other old i v true false ne) ∙ h) ]
 
-set-kept : (old : List Bool) (i v : ℕ) → i < length old → IsSet old v → IsSet (set old i true) v
+pub set-kept : (old : List Bool) (i v : ℕ) → i < length old → IsSet old v → IsSet (set old i true) v
 set-kept old i v lt h = elim (cases_eq v i) [
   | inl e ↦ subst (λ (x : ℕ). IsSet (set old i true) x) (sym e) (get_or-set_same old i true false lt)
   | inr ne ↦ get_or-set_other old i v true false ne ∙ h

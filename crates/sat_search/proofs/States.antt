@@ -129,6 +129,7 @@ IsSite-from F A steps truth place start floor t range s off = record {
   range = range;
   facts = λ q h lt. subst (λ (x : ℕ). Derived F [] x) (t.found q h).1 (s.facts (get_or place (q / 2) 0) lt);
   implied = λ i a b. IsImplied-from F A steps i (reason_at steps i) (s.reasons i b) (off i a b);
+  reasons = λ i n h e. subst (λ (x : Reason). IsReason F A steps i x) e (s.reasons i h);
 }
 
 -- a false clause with no free choice before its last literal refutes the assumptions

@@ -9,6 +9,7 @@ ghost use Rattle.sat_search.specs.Analysis.{IsSite, IsMarked, IsWitness, IsLearn
 
 use crate::guide::Guide;
 use crate::mark::{mark_all, next_marked, unmark};
+use crate::shorten::shorten;
 use kv_base::NoMemory;
 use sat_engine::{Reason, Store, Trail, complement};
 use std::alloc::Global;
@@ -121,7 +122,18 @@ pub fn analyze(
         at = resolve(guide, store, trail, start, floor, at, w, marks, &mut low)?;
         witness = next_witness(trail, marks, floor, at, w);
     }
-    low.push(complement(trail.steps[at].lit))?;
-    unmark(&low, marks);
-    Ok(low)
+    let mut clause = shorten(
+        alloc,
+        guide,
+        store,
+        trail,
+        start,
+        floor,
+        at + 1,
+        marks,
+        &mut low,
+    )?;
+    clause.push(complement(trail.steps[at].lit))?;
+    unmark(&clause, marks);
+    Ok(clause)
 }

@@ -1,3 +1,5 @@
+use crate::implied::{Grounds, Implied};
+use crate::levels::Levels;
 use kv_base::NoMemory;
 use sat_engine::{Trail, Watches};
 use sat_order::{Order, luby};
@@ -18,6 +20,18 @@ const LEAST: usize = 100;
 /// A clause of so few levels is never forgotten.
 const FEW: u32 = 2;
 
+/// What a learnt clause was of use for.
+#[derive(Clone, Copy, Debug)]
+struct Rating {
+    // how often it was used, where a use counts for half after each time that clauses are forgotten
+    uses: u32,
+    // on how many levels its literals stood when it was learnt
+    levels: u32,
+}
+
+/// What a clause begins with.
+const UNUSED: Rating = Rating { uses: 1, levels: 1 };
+
 /// Which literal to choose next, and when to begin anew: by how often a variable stood in conflicts lately, and by the
 /// value that it had last. No proof rests on it.
 #[derive(Drop)]
@@ -28,14 +42,12 @@ pub struct Guide {
     runs: u64,
     // how many clauses this run may still learn
     left: u64,
-    // where the choices stand in the trail
-    choices: Vec<usize>,
-    // when a conflict was last seen at each level
-    seen: Vec<u64>,
+    levels: Levels,
+    implied: Implied,
     // the clauses that may be forgotten
     learnt: Vec<u32>,
-    // of each clause how often it was used, where a use counts for half after each time that clauses are forgotten
-    uses: Vec<u32>,
+    // of each clause
+    ratings: Vec<Rating>,
     // at how many of them some are forgotten
     limit: usize,
     conflicts: u64,
@@ -52,10 +64,10 @@ impl Guide {
             phases: Vec::new(alloc),
             runs: 1,
             left: RUN,
-            choices: Vec::new(alloc),
-            seen: Vec::new(alloc),
+            levels: Levels::new(alloc),
+            implied: Implied::new(alloc),
             learnt: Vec::new(alloc),
-            uses: Vec::new(alloc),
+            ratings: Vec::new(alloc),
             limit: 0,
             conflicts: 0,
             due: GROW,
@@ -142,67 +154,24 @@ impl Guide {
 
     /// Takes note that a literal is chosen at this place of the trail.
     pub fn chosen(&mut self, at: usize) -> Result<(), NoMemory> {
-        self.choices.push(at)?;
-        Ok(())
+        self.levels.chosen(at)
     }
 
     /// Takes note that the trail is cut to this length.
     pub fn cut(&mut self, n: usize) {
-        for _choice in 0..self.choices.len() {
-            let last = self.choices.last().copied().unwrap_or(0);
-            if last < n {
-                break;
-            }
-            let _cut = self.choices.pop();
-        }
-    }
-
-    // How many choices stand up to this place.
-    fn level(&self, place: usize) -> usize {
-        let mut low = 0usize;
-        let mut high = self.choices.len();
-        for _step in 0..64 {
-            if low >= high {
-                break;
-            }
-            let middle = low + (high - low) / 2;
-            let here = self.choices.get(middle).copied().unwrap_or(usize::MAX);
-            if here <= place {
-                low = middle.saturating_add(1);
-            } else {
-                high = middle;
-            }
-        }
-        low
-    }
-
-    // Whether the level wasn't seen since the last conflict.
-    fn is_new(&mut self, level: usize) -> Result<bool, NoMemory> {
-        for _level in self.seen.len()..level.saturating_add(1) {
-            self.seen.push(0)?;
-        }
-        let now = self.conflicts.saturating_add(1);
-        match self.seen.get_mut(level) {
-            Some(seen) => {
-                let is_new = *seen != now;
-                *seen = now;
-                Ok(is_new)
-            }
-            None => Ok(false),
-        }
+        self.levels.cut(n);
     }
 
     /// On how many levels the literals of a clause stand.
     pub fn levels_of(&mut self, clause: &[u32], trail: &Trail) -> Result<u32, NoMemory> {
-        let mut many = 0u32;
-        for lit in clause {
-            let at = trail.place.get((*lit / 2) as usize).copied().unwrap_or(0);
-            let level = self.level(at);
-            if self.is_new(level)? {
-                many = many.saturating_add(1);
-            }
-        }
-        Ok(many)
+        self.levels.count(clause, trail)
+    }
+
+    /// Places of the trail whose literals seem to follow from the marked ones, each behind those that it follows from:
+    /// the listed literals among them, and what lies between.
+    pub fn implied(&mut self, grounds: &Grounds, low: &[u32]) -> Result<&[usize], NoMemory> {
+        self.implied.seek(grounds, &self.levels, low)?;
+        Ok(self.implied.found())
     }
 
     /// Takes note of a learnt clause and its levels.
@@ -210,8 +179,11 @@ impl Guide {
         if self.limit == 0 {
             self.limit = (number as usize / 3).max(LEAST);
         }
-        for _clause in self.uses.len()..=number as usize {
-            self.uses.push(1)?;
+        for _clause in self.ratings.len()..=number as usize {
+            self.ratings.push(UNUSED)?;
+        }
+        if let Some(rating) = self.ratings.get_mut(number as usize) {
+            rating.levels = levels;
         }
         if levels > FEW {
             self.learnt.push(number)?;
@@ -228,38 +200,40 @@ impl Guide {
 
     /// Takes note that a clause had a part in a conflict.
     pub fn used(&mut self, number: u32) {
-        if let Some(uses) = self.uses.get_mut(number as usize) {
-            *uses = uses.saturating_add(SHARES);
+        if let Some(rating) = self.ratings.get_mut(number as usize) {
+            rating.uses = rating.uses.saturating_add(SHARES);
         }
     }
 
-    fn uses_of(&self, number: u32) -> usize {
-        match self.uses.get(number as usize) {
-            Some(uses) => *uses as usize,
+    // What a clause is worth: how often it was used, for each of its levels.
+    fn worth(&self, number: u32) -> usize {
+        match self.ratings.get(number as usize) {
+            Some(rating) => rating.uses.saturating_mul(SHARES) as usize
+                / rating.levels.max(1) as usize,
             None => 0,
         }
     }
 
-    // How many clauses were used so often, up to 1023 and more.
+    // How many clauses are worth so much, up to 1023 and more.
     fn counts(&self) -> [usize; 1024] {
         let mut counts = [0usize; 1024];
         for number in self.learnt.as_slice() {
-            if let Some(count) = counts.get_mut(self.uses_of(*number).min(1023)) {
+            if let Some(count) = counts.get_mut(self.worth(*number).min(1023)) {
                 *count = count.saturating_add(1);
             }
         }
         counts
     }
 
-    // So many uses that half of the clauses have no more.
+    // So much that half of the clauses are worth no more.
     fn bound(&self) -> usize {
         let half = self.learnt.len() / 2;
         let counts = self.counts();
         let mut below = 0usize;
-        for (uses, count) in counts.iter().enumerate() {
+        for (worth, count) in counts.iter().enumerate() {
             below = below.saturating_add(*count);
             if below >= half {
-                return uses;
+                return worth;
             }
         }
         0
@@ -270,20 +244,20 @@ impl Guide {
         self.learnt.len() >= self.limit
     }
 
-    /// Forgets half of the learnt clauses, those that were used least.
+    /// Forgets half of the learnt clauses, those that are worth least.
     pub fn forget(&mut self, watches: &mut Watches) {
         let bound = self.bound();
         let mut left = self.learnt.len() / 2;
         let mut kept = 0usize;
         for at in 0..self.learnt.len() {
             let number = self.learnt.get(at).copied().unwrap_or(0);
-            if left > 0 && self.uses_of(number) <= bound {
+            if left > 0 && self.worth(number) <= bound {
                 left -= 1;
                 watches.forget(number);
                 continue;
             }
-            if let Some(uses) = self.uses.get_mut(number as usize) {
-                *uses /= 2;
+            if let Some(rating) = self.ratings.get_mut(number as usize) {
+                rating.uses /= 2;
             }
             if let Some(place) = self.learnt.get_mut(kept) {
                 *place = number;

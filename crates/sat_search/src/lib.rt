@@ -9,12 +9,15 @@ mod analysis;
 mod choice;
 mod cuts;
 mod guide;
+mod implied;
 mod index;
+mod levels;
 mod mark;
 mod newness;
 mod once;
 mod parts;
 mod repair;
+mod shorten;
 mod turn;
 mod words;
 

@@ -1,14 +1,14 @@
-use Rattle.std.proofs.Common.{ℕ, ◌≡◌, ◌*◌, ◌++◌, ◌∷◌, [], List, length, arith, subst, sym, ap, ◌∙◌}
+use Rattle.std.proofs.Common.{ℕ, ◌≡◌, ◌*◌, ◌<◌, ◌≤◌, ◌++◌, ◌∷◌, [], List, Bool, Option, None, Some, length, arith, subst, sym, ap, ◌∙◌}
 use Rattle.kv_clause.specs.Literals.{complement_of}
 use Rattle.kv_clause.specs.Propagation.{clause_at}
 use Rattle.std.specs.List.{Contains}
 use Rattle.sat_engine.specs.declared.trail.Step.{Step}
 use Rattle.sat_engine.specs.Trail.{lit_at}
-use Rattle.sat_search.specs.Mark.{MarkedAll}
-use Rattle.sat_search.specs.Analysis.{IsLearnt}
+use Rattle.sat_search.specs.Mark.{IsMarkedAt, IsNext, MarkedAll}
+use Rattle.sat_search.specs.Analysis.{IsLearnt, IsWitness}
 use Rattle.sat_engine.specs.Look.{InRange}
 use Rattle.sat_search.proofs.Repairs.{learnt_range}
-use Rattle.sat_search.proofs.StepReads.{lit_read, MarkedAll-in, IsWitness-next, IsNext-none}
+use Rattle.sat_search.proofs.StepReads.{lit_read, MarkedAll-in, IsWitness-next, IsNext-none, IsNext-fewer}
 use Rattle.sat_search.proofs.Analyses.{IsMarked-start, IsLearnt-from, marked_in, top_marked}
 use Rattle.sat_search.proofs.analysis.analyze.Goals as goal
 
@@ -29,37 +29,47 @@ loop-witness-init c =
       witness = IsWitness-next steps c.mark_all.new.marks c.args.floor c.args.top c.next_marked-witness.result c.next_marked-witness.ensures;
     }
 
+-- no marked place is left from `floor` on but the last one
+none_left : (steps : List Step) (old new : List Bool) (floor at : ℕ) (o : Option ℕ) → ((i : ℕ) → floor ≤ i → i < length steps → IsMarkedAt steps new i → IsMarkedAt steps old i) → at < length steps → ((w : ℕ) → o ≡ Some w → ⊥) → IsWitness steps old floor at o → IsNext steps new floor at None
+none_left steps old new floor at o fewer lt off w = IsNext-fewer steps old new floor at fewer lt (IsNext-none steps old floor at o off w)
+
 pub returns-clause-learnt : goal.returns-clause-learnt
 returns-clause-learnt c =
     let t = c.args.trail.now in
-    let h = c.in_default.not-Some in
     let F : List (List ℕ) = c.args.store.now in
-    let e : c.index-2.result.now.lit ≡ lit_at t.steps.items c.loop-witness.at = lit_read t.steps.items c.loop-witness.at c.index-2.result.now c.loop-witness.invariant.within c.index-2.ensures in
-    let is : c.push.new.self.items ≡ c.loop-witness.low.items ++ complement_of (lit_at t.steps.items c.loop-witness.at) ∷ [] = c.in_ok-push.ensures.items ∙ ap (λ (x : ℕ). c.loop-witness.low.items ++ x ∷ []) (c.complement.ensures ∙ ap complement_of e) in
+    let low : List ℕ = c.in_ok-clause.clause.items in
+    let at : ℕ = c.loop-witness.at in
+    let e : c.index-2.result.now.lit ≡ lit_at t.steps.items at = lit_read t.steps.items at c.index-2.result.now c.loop-witness.invariant.within c.index-2.ensures in
+    let is : c.push.new.self.items ≡ low ++ complement_of (lit_at t.steps.items at) ∷ [] = c.in_ok-push.ensures.items ∙ ap (λ (x : ℕ). low ++ x ∷ []) (c.complement.ensures ∙ ap complement_of e) in
+    let none = none_left t.steps.items c.loop-witness.marks c.shorten.new.marks c.args.floor at c.loop-witness.witness c.shorten.ensures.above c.loop-witness.invariant.within c.in_default.not-Some c.loop-witness.invariant.witness in
     subst (λ (x : List ℕ). IsLearnt F t.truth.items t.place.items c.args.floor x) (sym is)
-    (IsLearnt-from F t.steps.items t.truth.items t.place.items c.args.start c.args.floor c.requires.site c.loop-witness.at c.loop-witness.marks c.loop-witness.low.items c.loop-witness.invariant.marked (IsNext-none t.steps.items c.loop-witness.marks c.args.floor c.loop-witness.at c.loop-witness.witness h c.loop-witness.invariant.witness) c.loop-witness.invariant.within c.loop-witness.invariant.above)
+    (IsLearnt-from F t.steps.items t.truth.items t.place.items c.args.start c.args.floor c.requires.site at c.shorten.new.marks low c.in_ok-clause.ensures.marked none c.loop-witness.invariant.within c.loop-witness.invariant.above)
 
 pub returns-clause-clean : goal.returns-clause-clean
 returns-clause-clean c = λ v h.
     let t = c.args.trail.now in
-    let off = c.in_default.not-Some in
     let F : List (List ℕ) = c.args.store.now in
-    let e : c.index-2.result.now.lit ≡ lit_at t.steps.items c.loop-witness.at = lit_read t.steps.items c.loop-witness.at c.index-2.result.now c.loop-witness.invariant.within c.index-2.ensures in
-    let is : c.push.new.self.items ≡ c.loop-witness.low.items ++ complement_of (lit_at t.steps.items c.loop-witness.at) ∷ [] = c.in_ok-push.ensures.items ∙ ap (λ (x : ℕ). c.loop-witness.low.items ++ x ∷ []) (c.complement.ensures ∙ ap complement_of e) in
+    let low : List ℕ = c.in_ok-clause.clause.items in
+    let at : ℕ = c.loop-witness.at in
+    let e : c.index-2.result.now.lit ≡ lit_at t.steps.items at = lit_read t.steps.items at c.index-2.result.now c.loop-witness.invariant.within c.index-2.ensures in
+    let is : c.push.new.self.items ≡ low ++ complement_of (lit_at t.steps.items at) ∷ [] = c.in_ok-push.ensures.items ∙ ap (λ (x : ℕ). low ++ x ∷ []) (c.complement.ensures ∙ ap complement_of e) in
+    let none = none_left t.steps.items c.loop-witness.marks c.shorten.new.marks c.args.floor at c.loop-witness.witness c.shorten.ensures.above c.loop-witness.invariant.within c.in_default.not-Some c.loop-witness.invariant.witness in
     let w = c.unmark.ensures v h in
-    let k = marked_in F t.steps.items t.truth.items t.place.items c.args.start c.args.floor c.requires.site c.loop-witness.at c.loop-witness.marks c.loop-witness.low.items c.loop-witness.invariant.marked (IsNext-none t.steps.items c.loop-witness.marks c.args.floor c.loop-witness.at c.loop-witness.witness off c.loop-witness.invariant.witness) c.loop-witness.invariant.within v w.0 in
+    let k = marked_in F t.steps.items t.truth.items t.place.items c.args.start c.args.floor c.requires.site at c.shorten.new.marks low c.in_ok-clause.ensures.marked none c.loop-witness.invariant.within v w.0 in
     w.1 k.0 (subst (λ (x : List ℕ). Contains x k.0) (sym is ∙ sym c.deref-2.ensures.value) k.2) k.1
 
 pub unmark-requires : goal.unmark-requires
 unmark-requires c =
     let t = c.args.trail.now in
-    let h = c.in_default.not-Some in
     let F : List (List ℕ) = c.args.store.now in
-    let m = c.loop-witness.invariant.marked in
-    let cl : List ℕ = c.loop-witness.low.items ++ complement_of (lit_at t.steps.items c.loop-witness.at) ∷ [] in
-    let e : c.index-2.result.now.lit ≡ lit_at t.steps.items c.loop-witness.at = lit_read t.steps.items c.loop-witness.at c.index-2.result.now c.loop-witness.invariant.within c.index-2.ensures in
-    let is : c.push.new.self.items ≡ cl = c.in_ok-push.ensures.items ∙ ap (λ (x : ℕ). c.loop-witness.low.items ++ x ∷ []) (c.complement.ensures ∙ ap complement_of e) in
-    let learnt : IsLearnt F t.truth.items t.place.items c.args.floor cl = IsLearnt-from F t.steps.items t.truth.items t.place.items c.args.start c.args.floor c.requires.site c.loop-witness.at c.loop-witness.marks c.loop-witness.low.items m (IsNext-none t.steps.items c.loop-witness.marks c.args.floor c.loop-witness.at c.loop-witness.witness h c.loop-witness.invariant.witness) c.loop-witness.invariant.within c.loop-witness.invariant.above in
+    let low : List ℕ = c.in_ok-clause.clause.items in
+    let at : ℕ = c.loop-witness.at in
+    let m = c.in_ok-clause.ensures.marked in
+    let cl : List ℕ = low ++ complement_of (lit_at t.steps.items at) ∷ [] in
+    let e : c.index-2.result.now.lit ≡ lit_at t.steps.items at = lit_read t.steps.items at c.index-2.result.now c.loop-witness.invariant.within c.index-2.ensures in
+    let is : c.push.new.self.items ≡ cl = c.in_ok-push.ensures.items ∙ ap (λ (x : ℕ). low ++ x ∷ []) (c.complement.ensures ∙ ap complement_of e) in
+    let none = none_left t.steps.items c.loop-witness.marks c.shorten.new.marks c.args.floor at c.loop-witness.witness c.shorten.ensures.above c.loop-witness.invariant.within c.in_default.not-Some c.loop-witness.invariant.witness in
+    let learnt : IsLearnt F t.truth.items t.place.items c.args.floor cl = IsLearnt-from F t.steps.items t.truth.items t.place.items c.args.start c.args.floor c.requires.site at c.shorten.new.marks low m none c.loop-witness.invariant.within c.loop-witness.invariant.above in
     let range : InRange cl (length t.truth.items) = learnt_range F t.steps.items t.truth.items t.place.items c.args.floor cl c.requires.site.trail learnt in
-    let room : InRange cl (2 * length c.loop-witness.marks) = λ k lt. let r = range k lt in let b = m.room in omega arith in
-    subst (λ (x : List ℕ). InRange x (2 * length c.loop-witness.marks)) (sym is ∙ sym c.deref-2.ensures.value) room
+    let room : InRange cl (2 * length c.shorten.new.marks) = λ k lt. let r = range k lt in let b = m.room in omega arith in
+    subst (λ (x : List ℕ). InRange x (2 * length c.shorten.new.marks)) (sym is ∙ sym c.deref-2.ensures.value) room
