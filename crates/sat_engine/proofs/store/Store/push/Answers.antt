@@ -1,4 +1,4 @@
-use Rattle.std.proofs.Common.{arith, rules, ◌∙◌}
+use Rattle.std.proofs.Common.{rules, ◌∙◌}
 use Rattle.std.proofs.lemmas.Result.{err_from_is_err_and}
 use Rattle.sat_engine.proofs.Stored.{clauses_of-append, clauses_of-push}
 use Rattle.sat_engine.proofs.store.Store.push.Goals as goal
