@@ -25,7 +25,7 @@ const FEW: u32 = 2;
 struct Rating {
     // how often it was used, where a use counts for half after each time that clauses are forgotten
     uses: u32,
-    // on how many levels its literals stood when it was learnt
+    // on how many levels its false literals stood once the search had stepped back
     levels: u32,
 }
 
