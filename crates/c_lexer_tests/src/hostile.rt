@@ -163,7 +163,7 @@ fn long_constant(rt: HostRuntime) -> Result<(), Fail> {
 }
 
 /// A name of half a million letters, and a name that stands for it many times: as many copies of it as there is room
-/// for, and then want of memory. Without an end to them 250,000 uses would take 125 GB.
+/// for, and then want of memory. Without an end to them the 200,000 tokens that are read would take 100 GB.
 #[test]
 fn long_name(rt: HostRuntime) -> Result<(), Fail> {
     for (uses, fits) in [(134, true), (250_000, false)] {
