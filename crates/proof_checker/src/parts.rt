@@ -143,7 +143,10 @@ pub fn insert(
     let number = append(parts, clause)?;
     match classify(clause, &parts.trail.truth) {
         Class::Settled => match open_pair(clause, &parts.trail.truth) {
-            Some((one, two)) => parts.tiers.add(alloc, origin, number, clause, one, two),
+            Some((one, two)) => {
+                let (store, tiers) = (&parts.store, &mut parts.tiers);
+                tiers.add(alloc, store, origin, number, one, two)
+            }
             None => Ok(()),
         },
         Class::Unit(lit) => settle(alloc, parts, number, lit),

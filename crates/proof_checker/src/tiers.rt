@@ -73,44 +73,44 @@ impl Tiers {
         Ok(())
     }
 
-    /// Has a clause watch two of its literals.
+    /// Has a clause of the store watch two of its literals.
     pub fn add(
         &mut self,
         alloc: Global,
+        store: &Store,
         origin: Origin,
         clause: u32,
-        lits: &[u32],
         one: u32,
         two: u32,
     ) -> Result<(), NoMemory> {
-        self.tiers[0].watches.add(clause, lits, one, two)?;
+        self.tiers[0].watches.add(store, clause, one, two)?;
         if origin == Origin::Learnt {
             self.note_use(clause)?;
             self.tiers[0].learnt.push(clause)?;
             self.now = self.now.saturating_add(1);
-            self.age(alloc)?;
+            self.age(alloc, store)?;
         }
         Ok(())
     }
 
     /// From time to time moves clauses that weren't used for long to the next tier.
-    fn age(&mut self, alloc: Global) -> Result<(), NoMemory> {
+    fn age(&mut self, alloc: Global, store: &Store) -> Result<(), NoMemory> {
         if self.now % PERIOD == 0 {
-            self.thin_out(alloc, 0)?;
+            self.thin_out(alloc, store, 0)?;
         }
         if self.now % (16 * PERIOD) == 0 {
-            self.thin_out(alloc, 1)?;
+            self.thin_out(alloc, store, 1)?;
         }
         Ok(())
     }
 
     /// Moves the clauses of a tier that weren't used for long to the next one.
-    fn thin_out(&mut self, alloc: Global, tier: usize) -> Result<(), NoMemory>
+    fn thin_out(&mut self, alloc: Global, store: &Store, tier: usize) -> Result<(), NoMemory>
         requires { tier < 2 }
     {
         for clause in mem::replace(&mut self.tiers[tier].learnt, Vec::new(alloc)) {
             if self.age_of(clause) > PATIENCE[tier] {
-                self.move_to(alloc, tier, tier + 1, clause)?;
+                self.move_to(store, tier, tier + 1, clause)?;
             } else {
                 self.tiers[tier].learnt.push(clause)?;
             }
@@ -127,7 +127,7 @@ impl Tiers {
     /// Moves a clause, if it is in the one tier, to the other.
     fn move_to(
         &mut self,
-        alloc: Global,
+        store: &Store,
         from: usize,
         to: usize,
         clause: u32,
@@ -135,13 +135,12 @@ impl Tiers {
         requires from { from < 3 }
         requires to { to < 3 }
     {
-        let mut lits = Vec::new(alloc);
-        lits.extend_from_slice(self.tiers[from].watches.literals_of(clause))?;
-        let [one, two, ..] = lits.as_slice() else {
+        let [one, two, ..] = self.tiers[from].watches.literals_of(clause) else {
             return Ok(());
         };
+        let (one, two) = (*one, *two);
         self.tiers[from].watches.forget(clause);
-        self.tiers[to].watches.add(clause, &lits, *one, *two)?;
+        self.tiers[to].watches.add(store, clause, one, two)?;
         self.tiers[to].learnt.push(clause)?;
         Ok(())
     }
@@ -158,10 +157,10 @@ impl Tiers {
     }
 
     /// Brings a clause that is used back to the first tier.
-    fn recall(&mut self, alloc: Global, clause: u32) -> Result<(), NoMemory> {
+    fn recall(&mut self, store: &Store, clause: u32) -> Result<(), NoMemory> {
         self.note_use(clause)?;
-        self.move_to(alloc, 1, 0, clause)?;
-        self.move_to(alloc, 2, 0, clause)
+        self.move_to(store, 1, 0, clause)?;
+        self.move_to(store, 2, 0, clause)
     }
 
     /// Marks the places of a clause's literals.
@@ -188,20 +187,19 @@ impl Tiers {
     /// Recalls the clauses that lead from the literals before `base` to the false clause.
     fn recall_all(
         &mut self,
-        alloc: Global,
         store: &Store,
         trail: &Trail,
         base: usize,
         conflict: u32,
     ) -> Result<(), NoMemory> {
-        self.recall(alloc, conflict)?;
+        self.recall(store, conflict)?;
         self.mark(store, trail, conflict);
         for place in (base..trail.steps.len()).rev() {
             if !self.unmark(place) {
                 continue;
             }
             if let Reason::Clause(clause) = trail.steps[place].reason {
-                self.recall(alloc, clause)?;
+                self.recall(store, clause)?;
                 self.mark(store, trail, clause);
             }
         }
@@ -271,7 +269,7 @@ impl Tiers {
     {
         let found = self.seek(alloc, store, trail, from)?;
         if let Some(clause) = found {
-            self.recall_all(alloc, store, trail, from, clause)?;
+            self.recall_all(store, trail, from, clause)?;
         }
         Ok(found)
     }

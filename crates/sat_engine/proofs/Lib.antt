@@ -1,4 +1,5 @@
 pub mod Distinct
-pub mod Stored
+pub mod Laid
+pub mod Tagged
 pub mod Trails
 pub mod Growing

@@ -1,5 +1,6 @@
 use crate::literal::complement;
 use crate::look::is_true;
+use crate::store::Store;
 use kv_base::NoMemory;
 use std::alloc::Global;
 use std::mem;
@@ -8,7 +9,7 @@ use std::mem;
 const NOTHING: u32 = u32::MAX;
 
 /// How many words stand before the literals of a copy.
-const HEAD: usize = 2;
+const HEAD: usize = 3;
 
 /// What a look at a copy says beside one of the two literals that it watches.
 #[derive(Clone, Copy, Debug)]
@@ -19,12 +20,12 @@ pub enum Look {
     True(u32),
     /// a further literal isn't false, and is watched from now on
     Moved { to: u32, other: u32 },
-    /// all literals of this clause but the other watched one are false
-    Left { clause: u32, other: u32 },
+    /// all literals but the other watched one are false, and the clause begins at this place of the store
+    Left { home: u32, other: u32 },
 }
 
-/// Copies of the clauses that are watched, one after another in one array: the clause's number, how many literals
-/// stand in the copy, and these, the two that are watched first. No proof rests on them.
+/// Copies of the clauses that are watched, one after another in one array: the clause's number, where it begins in the
+/// store, how many literals stand in the copy, and these, the two that are watched first. No proof rests on them.
 #[derive(Drop)]
 pub struct Copies {
     alloc: Global,
@@ -74,22 +75,34 @@ impl Copies {
         }
     }
 
-    /// Copies a clause that watches two of its literals, and gives the place.
-    pub fn add(&mut self, clause: u32, lits: &[u32], one: u32, two: u32) -> Result<u32, NoMemory> {
+    /// Copies a clause of the store that watches two of its literals, and gives the place. None where there is no such
+    /// clause.
+    pub fn add(
+        &mut self,
+        store: &Store,
+        clause: u32,
+        one: u32,
+        two: u32,
+    ) -> Result<Option<u32>, NoMemory> {
+        let number = clause as usize;
+        if number >= store.len() {
+            return Ok(None);
+        }
         let Ok(place) = u32::try_from(self.words.len()) else {
             return Err(NoMemory);
         };
-        for _ in self.places.len()..=clause as usize {
+        for _ in self.places.len()..=number {
             self.places.push(NOTHING)?;
         }
-        self.words.extend_from_slice(&[clause, 2, one, two])?;
-        let further = self.add_others(lits, one, two)?;
+        let home = store.place_of(number);
+        self.words.extend_from_slice(&[clause, home, 2, one, two])?;
+        let further = self.add_others(store.get(number), one, two)?;
         self.set_word(
-            (place as usize).saturating_add(1),
+            (place as usize).saturating_add(2),
             further.saturating_add(2),
         );
         self.set_place(clause, place);
-        Ok(place)
+        Ok(Some(place))
     }
 
     // Puts the further literals at the end, and counts them.
@@ -144,9 +157,8 @@ impl Copies {
         if first + 2 > self.words.len() {
             return Look::Gone;
         }
-        let clause = self.words[first - 2];
         let end = first + self.words[first - 1] as usize;
-        if clause == NOTHING || end > self.words.len() || end < first + 2 {
+        if self.words[first - 3] == NOTHING || end > self.words.len() || end < first + 2 {
             return Look::Gone;
         }
         let one = self.words[first];
@@ -163,7 +175,10 @@ impl Copies {
             return Look::True(other);
         }
         match first_open(&self.words[first + 2..end], truth) {
-            None => Look::Left { clause, other },
+            None => Look::Left {
+                home: self.words[first - 2],
+                other,
+            },
             Some(at) => {
                 let to = self.exchange(seat, first + 2, at);
                 Look::Moved { to, other }
@@ -192,7 +207,7 @@ impl Copies {
         self.gone = 0;
         let mut at = 0;
         while at + HEAD <= old.len() {
-            let end = at + HEAD + old[at + 1] as usize;
+            let end = at + HEAD + old[at + 2] as usize;
             if end > old.len() {
                 break;
             }

@@ -16,7 +16,7 @@ mod watch;
 pub use literal::complement;
 pub use look::{Seen, look_at};
 pub use propagation::{imply, propagate};
-pub use store::Store;
+pub use store::{Store, Stored};
 pub use trail::{Reason, Step, Trail};
 pub use watch::Watches;
 

@@ -34,20 +34,23 @@ pub fn imply(store: &Store, trail: &mut Trail, clause: u32, lit: u32) -> Result<
     Ok(false)
 }
 
-// Sets a literal true where the clause itself says that all its others are false. True where that fails.
-fn infer(store: &Store, trail: &mut Trail, clause: u32, lit: u32) -> Result<bool, NoMemory>
+// Sets a literal true where all others are false of the clause that begins at a place. Gives the clause where all are.
+fn infer(store: &Store, trail: &mut Trail, home: u32, lit: u32) -> Result<Option<u32>, NoMemory>
     requires range { AreInRange store.now (length trail.old.truth.items) }
     ensures grows { Grows store.now trail.old.steps.items trail.new.steps.items }
     ensures size { length trail.new.truth.items ≡ length trail.old.truth.items }
-    ensures conflict { result ≡ Ok true → (clause < length store.now) × AreFalse (clause_at store.now clause) trail.new.truth.items }
+    ensures conflict { IfOk result (λ r. IfSome r (λ i. (i < length store.now) × AreFalse (clause_at store.now i) trail.new.truth.items)) }
 {
-    if clause as usize >= store.len() {
-        return Ok(false);
-    }
-    match look_at(store.get(clause as usize), &trail.truth, lit) {
-        Seen::Open(_) => Ok(false),
-        Seen::False => Ok(true),
-        Seen::Unit => imply(store, trail, clause, lit),
+    let Some(clause) = store.at(home) else {
+        return Ok(None);
+    };
+    match look_at(clause.lits, &trail.truth, lit) {
+        Seen::Open(_) => Ok(None),
+        Seen::False => Ok(Some(clause.number)),
+        Seen::Unit => {
+            let fails = imply(store, trail, clause.number, lit)?;
+            Ok(if fails { Some(clause.number) } else { None })
+        }
     }
 }
 
@@ -82,9 +85,10 @@ fn visit(
                 };
                 i += 1;
             }
-            Look::Left { clause, other } => {
-                if infer(store, trail, clause, other)? {
-                    return Ok(Some(clause));
+            Look::Left { home, other } => {
+                let found = infer(store, trail, home, other)?;
+                if found.is_some() {
+                    return Ok(found);
                 }
                 i += 1;
             }

@@ -1,5 +1,5 @@
 use crate::copies::Look;
-use crate::{Reason, Seen, Store, Trail, Watches, complement, look_at};
+use crate::{Reason, Seen, Store, Stored, Trail, Watches, complement, look_at};
 use std::process::Abort;
 use std::test::Fail;
 
@@ -10,6 +10,8 @@ fn clauses_are_kept(rt: HostRuntime) -> Result<(), Fail> {
     store.push(&[5])?;
     assert!(rt; store.len() == 2);
     assert!(rt; store.get(0) == [0u32, 3].as_slice());
+    assert!(rt; matches!(store.at(store.place_of(1)), Some(Stored { number: 1, .. })));
+    assert!(rt; store.at(1).is_none() && store.at(100).is_none());
     Ok(())
 }
 
@@ -30,10 +32,13 @@ fn a_literal_is_set_and_unset(rt: HostRuntime) -> Result<(), Fail> {
 #[test]
 fn a_watch_has_another_literal(rt: HostRuntime) -> Result<(), Fail> {
     let alloc = rt.alloc();
+    let mut store = Store::new(alloc);
+    store.push(&[3, 1, 0])?;
+    store.push(&[0, 3])?;
     let mut watches = Watches::new(alloc);
     watches.widen(alloc)?;
     watches.widen(alloc)?;
-    watches.add(0, &[3, 1, 0], 0, 3)?;
+    watches.add(&store, 0, 0, 3)?;
     assert!(rt; watches.is_watched(0) && !watches.is_watched(1));
     assert!(rt; watches.literals_of(0) == [0u32, 3, 1].as_slice());
     for watch in watches.take(alloc, 3) {
@@ -44,7 +49,7 @@ fn a_watch_has_another_literal(rt: HostRuntime) -> Result<(), Fail> {
     assert!(rt; list.len() == 1);
     watches.put_back(1, list);
     watches.forget(0);
-    watches.add(1, &[0, 3], 3, 0)?;
+    watches.add(&store, 1, 3, 0)?;
     assert!(rt; watches.take(alloc, 1).is_empty());
     assert!(rt; watches.literals_of(1) == [3u32, 0].as_slice());
     Ok(())

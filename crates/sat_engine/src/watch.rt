@@ -1,4 +1,5 @@
 use crate::copies::{Copies, Look, Moves};
+use crate::store::Store;
 use kv_base::NoMemory;
 use std::alloc::Global;
 use std::mem;
@@ -71,12 +72,14 @@ impl Watches {
         Ok(())
     }
 
-    /// Has the clause of these literals watch two of them.
-    pub fn add(&mut self, clause: u32, lits: &[u32], one: u32, two: u32) -> Result<(), NoMemory> {
+    /// Has a clause of the store watch two of its literals.
+    pub fn add(&mut self, store: &Store, clause: u32, one: u32, two: u32) -> Result<(), NoMemory> {
         if self.copies.is_due() {
             self.tidy()?;
         }
-        let place = self.copies.add(clause, lits, one, two)?;
+        let Some(place) = self.copies.add(store, clause, one, two)? else {
+            return Ok(());
+        };
         self.put(
             one,
             Watch {

@@ -2,10 +2,13 @@ use kv_base::NoMemory;
 use sat_engine::Trail;
 use std::alloc::Global;
 
-/// Where the choices stand in the trail. A place's level is how many of them stand up to there. No proof rests on it.
+/// The levels of the trail's places: how many choices stand up to there. No proof rests on it.
 #[derive(Drop)]
 pub struct Levels {
-    choices: Vec<usize>,
+    // of each place before the last choice
+    places: Vec<u32>,
+    // of the places from there on
+    last: u32,
     // at which count each level was seen last
     seen: Vec<u64>,
     counts: u64,
@@ -15,7 +18,8 @@ impl Levels {
     /// No choices. It takes no memory.
     pub fn new(alloc: Global) -> Levels {
         Levels {
-            choices: Vec::new(alloc),
+            places: Vec::new(alloc),
+            last: 0,
             seen: Vec::new(alloc),
             counts: 0,
         }
@@ -23,38 +27,25 @@ impl Levels {
 
     /// Takes note that a literal is chosen at this place of the trail.
     pub fn chosen(&mut self, at: usize) -> Result<(), NoMemory> {
-        self.choices.push(at)?;
+        for _place in self.places.len()..at {
+            self.places.push(self.last)?;
+        }
+        self.last = self.last.saturating_add(1);
         Ok(())
     }
 
     /// Takes note that the trail is cut to this length.
     pub fn cut(&mut self, n: usize) {
-        for _choice in 0..self.choices.len() {
-            let last = self.choices.last().copied().unwrap_or(0);
-            if last < n {
-                break;
-            }
-            let _cut = self.choices.pop();
+        if n > self.places.len() {
+            return;
         }
+        self.places.truncate(n);
+        self.last = self.places.last().copied().unwrap_or(0);
     }
 
     /// How many choices stand up to this place.
     pub fn level(&self, place: usize) -> usize {
-        let mut low = 0usize;
-        let mut high = self.choices.len();
-        for _step in 0..64 {
-            if low >= high {
-                break;
-            }
-            let middle = low + (high - low) / 2;
-            let here = self.choices.get(middle).copied().unwrap_or(usize::MAX);
-            if here <= place {
-                low = middle.saturating_add(1);
-            } else {
-                high = middle;
-            }
-        }
-        low
+        self.places.get(place).copied().unwrap_or(self.last) as usize
     }
 
     // Whether the level wasn't seen in this count.

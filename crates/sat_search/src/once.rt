@@ -44,7 +44,7 @@ fn recall(
     let Some(other) = latest(clause, lit, place) else {
         return Ok(());
     };
-    watches.add(number, clause, lit, other)?;
+    watches.add(store, number, lit, other)?;
     guide.recall(number)
 }
 

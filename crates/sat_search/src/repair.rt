@@ -124,11 +124,11 @@ pub fn record_clause(
         sketch: sketch(clause),
     };
     index.put(clause[under] as usize, entry)?;
+    store.push(clause)?;
     match watched {
-        Some((one, two)) => watches.add(number, clause, one, two)?,
+        Some((one, two)) => watches.add(store, number, one, two)?,
         None => {}
     }
-    store.push(clause)?;
     Ok(number)
 }
 
