@@ -98,11 +98,11 @@ fn search<P: Poll>(
 fn clause_of(alloc: Global, lits: &[u32]) -> Result<Clause, NoMemory>
     ensures { IfOk result (λ clause. clause ≡ lits.now) }
 {
-    let mut made = Sequence::new(alloc);
+    let mut made = Vec::with_capacity(alloc, lits.len())?;
     for lit in lits {
         made.push(Lit::from_number(u64::from(*lit)))?;
     }
-    Ok(made)
+    Ok(Sequence::from_vec(made))
 }
 
 // Logs the clauses of the store from this one on.

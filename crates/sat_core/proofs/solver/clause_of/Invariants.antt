@@ -2,4 +2,4 @@ use Rattle.std.proofs.Common.{◌≡◌, take}
 use Rattle.sat_core.proofs.solver.clause_of.Given as goal
 
 abbrev pub invariant-loop-lit : goal.invariant-loop-lit
-invariant-loop-lit l = l.made ≡ take l.lit-index l.lits
+invariant-loop-lit l = l.made.items ≡ take l.lit-index l.lits
