@@ -2,7 +2,7 @@ use Rattle.std.proofs.Common.{ℕ, ◌≡◌, ◌<◌, ◌++◌, ◌∷◌, [], 
 use Rattle.std.specs.declared.vec.Vec.{Vec}
 use Rattle.std.specs.declared.alloc.Global.{Global}
 use Rattle.std.proofs.lemmas.List.{map-set, get_or-map, length-map}
-use Rattle.sat_search.specs.declared.index.Entry.{Entry}
+use Rattle.sat_search.specs.declared.block.Entry.{Entry}
 use Rattle.sat_search.proofs.index.Index.put.Goals as goal
 
 abbrev items_of : Vec Entry Global → List Entry

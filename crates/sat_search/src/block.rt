@@ -1,0 +1,41 @@
+ghost use Rattle.std.specs.Prelude.{◌≡◌, [], ◌∷◌, ◌++◌, OnOk};
+ghost use Rattle.sat_search.specs.Sketch.{AreWithin};
+
+use kv_base::NoMemory;
+use std::alloc::Global;
+
+/// A listed clause: its number, and a word in which each of its literals unsets a bit.
+#[derive(Clone, Copy, Debug)]
+pub struct Entry {
+    pub number: u32,
+    pub sketch: u128,
+}
+
+/// Entries that were listed one after another, and a word that has only bits unset which each of their sketches has
+/// unset.
+#[derive(Drop)]
+pub struct Block {
+    pub entries: Vec<Entry>,
+    pub joint: u128,
+    ghost ok: { AreWithin joint entries.items },
+}
+
+impl Block {
+    /// No entry. It takes no memory.
+    pub fn new(alloc: Global) -> Block
+        ensures { result.entries.items ≡ [] }
+    {
+        Block {
+            entries: Vec::new(alloc),
+            joint: 0,
+        }
+    }
+
+    pub fn put(&mut self, entry: Entry) -> Result<(), NoMemory>
+        ensures { OnOk result (self.new.entries.items ≡ self.old.entries.items ++ entry ∷ []) }
+    {
+        self.joint |= entry.sketch;
+        self.entries.push(entry)?;
+        Ok(())
+    }
+}
