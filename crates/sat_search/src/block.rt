@@ -11,8 +11,8 @@ pub struct Entry {
     pub sketch: u128,
 }
 
-/// Entries that were listed one after another, and a word that has only bits unset which each of their sketches has
-/// unset.
+/// Entries that were listed one after another, and a word in which each bit is set that is set in one of their
+/// sketches.
 #[derive(Drop)]
 pub struct Block {
     pub entries: Vec<Entry>,

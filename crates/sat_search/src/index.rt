@@ -27,7 +27,7 @@ fn count_each(counts: &mut Vec<u64>, clause: &[u32]) {
     }
 }
 
-// Puts an entry into the last block, or into a new one where that has no room.
+// Puts an entry into the last block where that has room, and else into a new one.
 fn put_into(alloc: Global, blocks: &mut Vec<Block>, entry: Entry) -> Result<(), NoMemory>
     ensures { OnOk result (entries_of blocks.new.items ≡ entries_of blocks.old.items ++ entry ∷ []) }
 {

@@ -15,7 +15,7 @@ entries_of-last blocks i old new n last e f =
     let size : i ≡ length front = sym (length-take-le i blocks (omega arith)) in
     let after : set blocks i new ≡ front ++ new ∷ [] = ap (λ (x : List Block). set x i new) before ∙ ap (λ (k : ℕ). set (front ++ old ∷ []) k new) size ∙ set-append_seam front old [] new in
     ap entries_of after ∙ entries_of-push front new ∙ ap (λ (x : List Entry). entries_of front ++ x) f ∙ sym (append_assoc (entries_of front) old.entries.items (n ∷ []))
-        ∙ ap (λ (x : List Entry). x ++ n ∷ []) (sym (entries_of-push front old) ∙ ap entries_of (sym before))
+    ∙ ap (λ (x : List Entry). x ++ n ∷ []) (sym (entries_of-push front old) ∙ ap entries_of (sym before))
 
 pub returns-then-len-lt-MOST : goal.returns-then-len-lt-MOST
 returns-then-len-lt-MOST c =

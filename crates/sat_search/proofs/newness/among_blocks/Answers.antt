@@ -1,4 +1,4 @@
-use Rattle.std.proofs.Common.{ℕ, ◌≡◌, ◌+◌, ◌<◌, ◌++◌, inl, inr, List, Bool, length, get_or, take, refl, sym, ap, subst, ◌∙◌, arith}
+use Rattle.std.proofs.Common.{ℕ, ◌≡◌, ◌+◌, ◌<◌, ◌++◌, inl, inr, List, Bool, length, get_or, take, refl, sym, ap, subst, ◌∙◌}
 use Rattle.std.proofs.lemmas.List.{take_more, take_all}
 use Rattle.std.proofs.lemmas.List.Elements.{Contains-append_cases}
 use Rattle.sat_engine.specs.Trail.{IsSet}
@@ -33,9 +33,9 @@ pub loop-block-preserved-then-not-is_within : goal.loop-block-preserved-then-not
 loop-block-preserved-then-not-is_within c =
     let block : Block = c.block-item.result in
     NoneFlagged-next c.args.store.now c.args.blocks.now c.args.flags.now c.loop-block.block-index block c.loop-block-test.true c.block-item.is c.loop-block.invariant
-        (NoneFlagged-apart c.args.store.now block.entries.items block.joint c.args.sketch c.args.flags.now block.ok c.requires.sketch c.requires.flagged (c.if-not-is_within.ensures refl))
+    (NoneFlagged-apart c.args.store.now block.entries.items block.joint c.args.sketch c.args.flags.now block.ok c.requires.sketch c.requires.flagged (c.if-not-is_within.ensures refl))
 
 pub loop-block-preserved : goal.loop-block-preserved
 loop-block-preserved c =
     NoneFlagged-next c.args.store.now c.args.blocks.now c.args.flags.now c.loop-block.block-index c.block-item.result c.loop-block-test.true c.block-item.is c.loop-block.invariant
-        (subst (λ (x : List Entry). NoneFlagged c.args.store.now x c.args.flags.now) c.deref.ensures.value c.in-None.ensures)
+    (subst (λ (x : List Entry). NoneFlagged c.args.store.now x c.args.flags.now) c.deref.ensures.value c.in-None.ensures)
