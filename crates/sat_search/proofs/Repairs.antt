@@ -14,7 +14,7 @@ use Rattle.sat_engine.specs.Look.{InRange, AreInRange, AreFalse}
 use Rattle.sat_engine.proofs.Trails.{each_Contains, lit_at-take}
 use Rattle.sat_search.specs.declared.repair.Spot.{Spot}
 use Rattle.sat_search.specs.Analysis.{IsSite, IsLearnt}
-use Rattle.sat_search.specs.declared.block.Entry.{Entry}
+use Rattle.sat_search.specs.declared.index.Entry.{Entry}
 use Rattle.sat_search.specs.Sketch.{IsSketch}
 use Rattle.sat_search.specs.New.{IsEntry, IsIndexed}
 use Rattle.sat_search.specs.State.{is_choice, IsState}

@@ -3,7 +3,7 @@ use Rattle.std.specs.Int.Bits.{bit_and, bit_or, and_self}
 use Rattle.std.proofs.lemmas.Nat.{and_assoc, and_comm, or_comm, and_or_self}
 use Rattle.std.proofs.lemmas.List.{take_more}
 use Rattle.std.proofs.lemmas.List.Elements.{Contains-push_cases, Contains-push, Contains-append_left}
-use Rattle.sat_search.specs.declared.block.Entry.{Entry}
+use Rattle.sat_search.specs.declared.index.Entry.{Entry}
 use Rattle.sat_search.specs.Sketch.{all_set, mask_of, Lacks, IsWithin, AreWithin, IsSketch}
 
 -- two words in either order after a third

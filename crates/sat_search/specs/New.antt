@@ -3,7 +3,7 @@ use Rattle.std.specs.List.{Contains, flat_map}
 use Rattle.sat_engine.specs.Trail.{IsSet}
 use Rattle.sat_search.specs.Sketch.{IsSketch}
 use Rattle.sat_search.specs.declared.block.Block.{Block}
-use Rattle.sat_search.specs.declared.block.Entry.{Entry}
+use Rattle.sat_search.specs.declared.index.Entry.{Entry}
 use Rattle.kv_clause.specs.Propagation.{clause_at, Includes}
 
 -- the entries of the blocks, one after another

@@ -2,7 +2,7 @@
 use Rattle.std.specs.Prelude.{ℕ, ◌≡◌, ◌%◌, ◌^◌, ◌*◌, ◌-◌, List}
 use Rattle.std.specs.List.{Contains}
 use Rattle.std.specs.Int.Bits.{bit_and, bit_xor}
-use Rattle.sat_search.specs.declared.block.Entry.{Entry}
+use Rattle.sat_search.specs.declared.index.Entry.{Entry}
 
 abbrev pub all_set : ℕ
 all_set = 2 ^ 128 - 1

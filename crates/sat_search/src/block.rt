@@ -1,15 +1,9 @@
 ghost use Rattle.std.specs.Prelude.{◌≡◌, [], ◌∷◌, ◌++◌, OnOk};
 ghost use Rattle.sat_search.specs.Sketch.{AreWithin};
 
+use crate::index::Entry;
 use kv_base::NoMemory;
 use std::alloc::Global;
-
-/// A listed clause: its number, and a word in which each of its literals unsets a bit.
-#[derive(Clone, Copy, Debug)]
-pub struct Entry {
-    pub number: u32,
-    pub sketch: u128,
-}
 
 /// Entries that were listed one after another, and a word in which each bit is set that is set in one of their
 /// sketches.

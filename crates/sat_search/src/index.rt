@@ -1,10 +1,17 @@
 ghost use Rattle.std.specs.Prelude.{◌≡◌, ℕ, ◌+◌, ◌<◌, ◌≤◌, List, [], ◌∷◌, ◌++◌, length, slice_index_or, slice_set, OnOk, OnErr};
 ghost use Rattle.sat_search.specs.New.{entries_of};
 
-use crate::block::{Block, Entry};
+use crate::block::Block;
 use kv_base::NoMemory;
 use std::alloc::Global;
 use std::marker::Model;
+
+/// A listed clause: its number, and a word in which each of its literals unsets a bit.
+#[derive(Clone, Copy, Debug)]
+pub struct Entry {
+    pub number: u32,
+    pub sketch: u128,
+}
 
 /// How many entries a block has at most.
 const MOST: usize = 16;
@@ -46,7 +53,7 @@ impl Model for Index {
     ghost use Rattle.std.specs.Prelude.{ℕ, List, map};
     ghost use Rattle.std.specs.declared.vec.Vec.{Vec};
     ghost use Rattle.std.specs.declared.alloc.Global.{Global};
-    ghost use Rattle.sat_search.specs.declared.block.Entry.{Entry};
+    ghost use Rattle.sat_search.specs.declared.index.Entry.{Entry};
     ghost use Rattle.sat_search.specs.New.{entries_of};
 
     ghost Value = { List (List Entry) };

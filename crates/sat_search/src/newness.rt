@@ -7,8 +7,8 @@ ghost use Rattle.sat_search.specs.Sketch.{all_set, Lacks, IsSketch, IsWithin};
 ghost use Rattle.sat_search.specs.New.{entries_of, IsIndexed, IsEarlier, IsPassed, NoneFlagged};
 ghost use Rattle.kv_clause.specs.Propagation.{Includes};
 
-use crate::block::{Block, Entry};
-use crate::index::Index;
+use crate::block::Block;
+use crate::index::{Entry, Index};
 use crate::words::sketch;
 use sat_engine::Store;
 

@@ -10,11 +10,10 @@ ghost use Rattle.sat_search.specs.State.{IsState, IsReady};
 ghost use Rattle.sat_search.specs.Repair.{IsBack, IsFound, IsSpot, IsJump};
 
 use crate::analysis::analyze;
-use crate::block::Entry;
 use crate::choice::{last_choice, last_place, next_choice};
 use crate::cuts::rewind;
 use crate::guide::Guide;
-use crate::index::Index;
+use crate::index::{Entry, Index};
 use crate::parts::Parts;
 use crate::words::sketch;
 use kv_base::NoMemory;

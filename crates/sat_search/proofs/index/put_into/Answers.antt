@@ -3,7 +3,7 @@ use Rattle.std.proofs.Math.Seq.{set-append_seam}
 use Rattle.std.proofs.lemmas.List.{take_more, take_all, length-take-le}
 use Rattle.std.proofs.lemmas.Result.{on_ok_weaker}
 use Rattle.sat_search.specs.declared.block.Block.{Block}
-use Rattle.sat_search.specs.declared.block.Entry.{Entry}
+use Rattle.sat_search.specs.declared.index.Entry.{Entry}
 use Rattle.sat_search.specs.New.{entries_of}
 use Rattle.sat_search.proofs.Blocks.{entries_of-push}
 use Rattle.sat_search.proofs.index.put_into.Goals as goal

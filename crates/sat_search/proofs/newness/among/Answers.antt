@@ -2,7 +2,7 @@ use Rattle.std.proofs.Common.{ℕ, ◌+◌, ◌<◌, inl, inr, List, Bool, lengt
 use Rattle.std.specs.List.{Contains}
 use Rattle.std.proofs.lemmas.List.{take_more, take_all}
 use Rattle.std.proofs.lemmas.List.Elements.{Contains-push_cases}
-use Rattle.sat_search.specs.declared.block.Entry.{Entry}
+use Rattle.sat_search.specs.declared.index.Entry.{Entry}
 use Rattle.sat_search.specs.New.{IsEntry, IsPassed, NoneFlagged}
 use Rattle.sat_search.proofs.newness.among.Goals as goal
 

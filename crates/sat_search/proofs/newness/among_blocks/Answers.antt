@@ -3,7 +3,7 @@ use Rattle.std.proofs.lemmas.List.{take_more, take_all}
 use Rattle.std.proofs.lemmas.List.Elements.{Contains-append_cases}
 use Rattle.sat_engine.specs.Trail.{IsSet}
 use Rattle.sat_search.specs.declared.block.Block.{Block}
-use Rattle.sat_search.specs.declared.block.Entry.{Entry}
+use Rattle.sat_search.specs.declared.index.Entry.{Entry}
 use Rattle.sat_search.specs.Sketch.{all_set, Lacks, IsWithin, AreWithin}
 use Rattle.sat_search.specs.New.{entries_of, NoneFlagged}
 use Rattle.sat_search.proofs.Sketches.{IsWithin-through}

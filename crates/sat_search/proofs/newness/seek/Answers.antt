@@ -1,6 +1,6 @@
 use Rattle.std.proofs.Common.{ℕ, ◌≡◌, [], List, get_or, subst, sym, arith, below_more, ◌∙◌}
 use Rattle.std.proofs.lemmas.List.{get_or_default}
-use Rattle.sat_search.specs.declared.block.Entry.{Entry}
+use Rattle.sat_search.specs.declared.index.Entry.{Entry}
 use Rattle.sat_search.specs.New.{IsListed, NoneFlagged}
 use Rattle.sat_search.proofs.newness.seek.Goals as goal
 

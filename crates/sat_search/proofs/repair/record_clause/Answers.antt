@@ -3,7 +3,7 @@ use Rattle.std.specs.List.{Contains}
 use Rattle.std.proofs.lemmas.Grind.{common_steps}
 use Rattle.std.proofs.lemmas.List.{length-set, length-append}
 use Rattle.std.proofs.lemmas.List.Elements.{Contains-get_or}
-use Rattle.sat_search.specs.declared.block.Entry.{Entry}
+use Rattle.sat_search.specs.declared.index.Entry.{Entry}
 use Rattle.sat_search.specs.New.{IsIndexed}
 use Rattle.sat_search.proofs.Repairs.{IsIndexed-push}
 use Rattle.sat_search.proofs.repair.record_clause.Goals as goal
