@@ -17,8 +17,7 @@ use Rattle.sat_search.specs.Analysis.{IsSite, IsLearnt}
 use Rattle.sat_search.specs.declared.index.Entry.{Entry}
 use Rattle.sat_search.specs.Sketch.{IsSketch}
 use Rattle.sat_search.specs.New.{IsEntry, IsIndexed}
-use Rattle.kv_clause.specs.Propagation.{Includes}
-use Rattle.sat_search.specs.State.{is_choice, word, IsState, IsNew}
+use Rattle.sat_search.specs.State.{is_choice, IsState}
 use Rattle.sat_search.specs.Choice.{IsLastPlace, IsChoiceAt, NoChoice}
 use Rattle.sat_search.specs.Repair.{IsBack, IsSpot, IsJump}
 use Rattle.sat_search.proofs.States.{Conflict-from, no_free, false_in, IsState-cut, IsSite-from}

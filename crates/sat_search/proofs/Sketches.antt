@@ -1,29 +1,10 @@
-use Rattle.std.proofs.Common.{ℕ, suc, zero, ◌≡◌, ◌+◌, ◌*◌, ◌/◌, ◌%◌, ◌<◌, ◌≤◌, ◌++◌, ◌∷◌, [], List, length, get_or, take, inl, inr, refl, sym, ap, subst, ◌∙◌, arith}
-use Rattle.std.specs.List.{Contains}
-use Rattle.std.specs.Int.Bits.{bit_and}
-use Rattle.std.proofs.lemmas.Nat.{and_assoc, and_comm, and_block}
+use Rattle.std.proofs.Common.{ℕ, ◌≡◌, ◌+◌, ◌<◌, ◌++◌, ◌∷◌, [], Bool, true, false, cond, List, length, get_or, take, inl, inr, sym, ap, subst, ◌∙◌, arith}
+use Rattle.std.specs.Int.Bits.{bit_and, bit_or, and_self}
+use Rattle.std.proofs.lemmas.Nat.{and_assoc, and_comm, or_comm, and_or_self}
 use Rattle.std.proofs.lemmas.List.{take_more}
 use Rattle.std.proofs.lemmas.List.Elements.{Contains-push_cases, Contains-push, Contains-append_left}
-use Rattle.sat_search.specs.Sketch.{all_set, mask_of, Lacks, IsWithin, IsSketch}
-
--- a number and itself
-and_same_to : (n k : ℕ) → k < n → bit_and k k ≡ k
-and_same_to zero k lt = absurd (omega (arith, lt))
-and_same_to (suc n) zero lt = refl
-and_same_to (suc n) (suc m) lt =
-    let k : ℕ = suc m in
-    let half : bit_and (k / 2) (k / 2) ≡ k / 2 = and_same_to n (k / 2) (omega (arith, lt)) in
-    let low : bit_and (k % 2) (k % 2) ≡ k % 2 = bit_same (k % 2) (omega arith) in
-    let split : k / 2 * 2 + k % 2 ≡ k = omega arith in
-    ap (λ (x : ℕ). bit_and x x) (sym split) ∙ and_block 1 (k / 2) (k / 2) (k % 2) (k % 2) (omega arith) (omega arith) ∙ ap (λ (x : ℕ). x * 2 + bit_and (k % 2) (k % 2)) half ∙ ap (λ (x : ℕ). k / 2 * 2 + x) low ∙ split
-  where
-    bit_same : (b : ℕ) → b < 2 → bit_and b b ≡ b
-    bit_same zero b = refl
-    bit_same (suc zero) b = refl
-    bit_same (suc (suc n)) b = absurd (omega (arith, b))
-
-and_same : (k : ℕ) → bit_and k k ≡ k
-and_same k = and_same_to (suc k) k (omega arith)
+use Rattle.sat_search.specs.declared.index.Entry.{Entry}
+use Rattle.sat_search.specs.Sketch.{all_set, mask_of, Lacks, IsWithin, AreWithin, IsSketch}
 
 -- two words in either order after a third
 and_swap : (s a b : ℕ) → bit_and (bit_and s a) b ≡ bit_and (bit_and s b) a
@@ -31,7 +12,7 @@ and_swap s a b = and_assoc b s a ∙ ap (λ (x : ℕ). bit_and s x) (and_comm a 
 
 pub IsSketch-none : IsSketch [] all_set
 IsSketch-none = record {
-  whole = and_same all_set;
+  whole = and_self all_set;
   each = λ l w. absurd (omega (arith, w.1));
   least = λ t whole each. whole;
 }
@@ -44,7 +25,7 @@ IsSketch-more c s k d lt h =
       whole = sym (and_assoc (mask_of l) all_set s) ∙ ap (λ (x : ℕ). bit_and x (mask_of l)) h.whole;
       each = λ m w. elim (Contains-push_cases (take k c) l m w) [
         | inl old ↦ and_swap s (mask_of l) (mask_of m) ∙ ap (λ (x : ℕ). bit_and x (mask_of l)) (h.each m old)
-        | inr new ↦ subst (λ (x : ℕ). Lacks (bit_and s (mask_of l)) x) new (and_assoc (mask_of l) s (mask_of l) ∙ ap (λ (x : ℕ). bit_and s x) (and_same (mask_of l)))
+        | inr new ↦ subst (λ (x : ℕ). Lacks (bit_and s (mask_of l)) x) new (and_assoc (mask_of l) s (mask_of l) ∙ ap (λ (x : ℕ). bit_and s x) (and_self (mask_of l)))
       ];
       least = λ t whole each.
           let old : IsWithin s t = h.least t whole (λ m w. each m (Contains-append_left (take k c) (l ∷ []) m w)) in
@@ -52,3 +33,23 @@ IsSketch-more c s k d lt h =
           and_assoc t s (mask_of l) ∙ ap (λ (x : ℕ). bit_and s x) (and_comm (mask_of l) t ∙ new) ∙ old;
     } in
     subst (λ (x : List ℕ). IsSketch x (bit_and s (mask_of l))) (sym more) made
+
+pub IsWithin-through : (r s t : ℕ) → IsWithin r s → IsWithin s t → IsWithin r t
+IsWithin-through r s t one two = ap (λ (x : ℕ). bit_and r x) (sym two) ∙ sym (and_assoc t r s) ∙ ap (λ (x : ℕ). bit_and x t) one ∙ two
+
+-- the joint word is within each that it was joined from
+IsWithin-left : (r s : ℕ) → IsWithin (bit_or r s) r
+IsWithin-left r s = ap (λ (x : ℕ). bit_and x r) (or_comm r s) ∙ and_or_self r s
+
+IsWithin-right : (r s : ℕ) → IsWithin (bit_or r s) s
+IsWithin-right r s = and_or_self s r
+
+AreWithin-raised : (joint s : ℕ) (entries : List Entry) → AreWithin joint entries → AreWithin (bit_or joint s) entries
+AreWithin-raised joint s entries h e w = IsWithin-through (bit_or joint s) joint e.sketch (IsWithin-left joint s) (h e w)
+
+pub AreWithin-put : (b : Bool) (joint : ℕ) (entries after : List Entry) (n : Entry) → AreWithin joint entries → after ≡ cond b (entries ++ n ∷ []) entries → AreWithin (bit_or joint n.sketch) after
+AreWithin-put false joint entries after n h is = subst (AreWithin (bit_or joint n.sketch)) (sym is) (AreWithin-raised joint n.sketch entries h)
+AreWithin-put true joint entries after n h is = subst (AreWithin (bit_or joint n.sketch)) (sym is) (λ e w. elim (Contains-push_cases entries n e w) [
+  | inl old ↦ AreWithin-raised joint n.sketch entries h e old
+  | inr new ↦ subst (λ (x : Entry). IsWithin (bit_or joint n.sketch) x.sketch) new (IsWithin-right joint n.sketch)
+])

@@ -1,9 +1,14 @@
 use Rattle.std.specs.Prelude.{ℕ, ◌≡◌, ◌<◌, List, [], length, slice_index_or, Bool, Option, None, Some}
-use Rattle.std.specs.List.{Contains}
+use Rattle.std.specs.List.{Contains, flat_map}
 use Rattle.sat_engine.specs.Trail.{IsSet}
 use Rattle.sat_search.specs.Sketch.{IsSketch}
+use Rattle.sat_search.specs.declared.block.Block.{Block}
 use Rattle.sat_search.specs.declared.index.Entry.{Entry}
 use Rattle.kv_clause.specs.Propagation.{clause_at, Includes}
+
+-- the entries of the blocks, one after another
+abbrev pub entries_of : List Block → List Entry
+entries_of blocks = flat_map (λ block. block.entries.items) blocks
 
 -- the entry has a clause's number and its sketch
 pub record IsEntry (F : List (List ℕ)) (i : ℕ) (e : Entry) : Type 0 where

@@ -1,5 +1,7 @@
 ghost use Rattle.std.specs.Prelude.{◌≡◌, ℕ, ◌+◌, ◌<◌, ◌≤◌, List, [], ◌∷◌, ◌++◌, length, slice_index_or, slice_set, OnOk, OnErr};
+ghost use Rattle.sat_search.specs.New.{entries_of};
 
+use crate::block::Block;
 use kv_base::NoMemory;
 use std::alloc::Global;
 use std::marker::Model;
@@ -8,13 +10,17 @@ use std::marker::Model;
 #[derive(Clone, Copy, Debug)]
 pub struct Entry {
     pub number: u32,
-    pub sketch: u64,
+    pub sketch: u128,
 }
+
+/// How many entries a block has at most.
+const MOST: usize = 16;
 
 /// For each literal a growing list of clauses. Contracts see the lists.
 #[derive(Drop)]
 pub struct Index {
-    lists: Vec<Vec<Entry>>,
+    alloc: Global,
+    lists: Vec<Vec<Block>>,
     // how often each literal stood in a clause
     counts: Vec<u64>,
 }
@@ -28,15 +34,31 @@ fn count_each(counts: &mut Vec<u64>, clause: &[u32]) {
     }
 }
 
+// Puts an entry into the last block where that has room, and else into a new one.
+fn put_into(alloc: Global, blocks: &mut Vec<Block>, entry: Entry) -> Result<(), NoMemory>
+    ensures { OnOk result (entries_of blocks.new.items ≡ entries_of blocks.old.items ++ entry ∷ []) }
+{
+    if let Some(block) = blocks.last_mut() {
+        if block.entries.len() < MOST {
+            return block.put(entry);
+        }
+    }
+    let mut block = Block::new(alloc);
+    block.put(entry)?;
+    blocks.push(block)?;
+    Ok(())
+}
+
 impl Model for Index {
     ghost use Rattle.std.specs.Prelude.{ℕ, List, map};
     ghost use Rattle.std.specs.declared.vec.Vec.{Vec};
     ghost use Rattle.std.specs.declared.alloc.Global.{Global};
     ghost use Rattle.sat_search.specs.declared.index.Entry.{Entry};
+    ghost use Rattle.sat_search.specs.New.{entries_of};
 
     ghost Value = { List (List Entry) };
 
-    ghost view = { λ s. map (λ v. v.items) s.lists.items };
+    ghost view = { λ s. map (λ v. entries_of v.items) s.lists.items };
 }
 
 impl Index {
@@ -44,6 +66,7 @@ impl Index {
         ensures { result ≡ [] }
     {
         Index {
+            alloc,
             lists: Vec::new(alloc),
             counts: Vec::new(alloc),
         }
@@ -57,9 +80,10 @@ impl Index {
         Ok(())
     }
 
-    pub fn get(&self, lit: usize) -> &[Entry]
+    /// The blocks whose entries are a literal's list.
+    pub fn get(&self, lit: usize) -> &[Block]
         requires { lit < length self.now }
-        ensures { result.now ≡ slice_index_or self.now lit [] }
+        ensures { entries_of result.now ≡ slice_index_or self.now lit [] }
     {
         self.lists[lit].as_slice()
     }
@@ -68,8 +92,7 @@ impl Index {
         requires { lit < length self.old }
         ensures { OnOk result (self.new ≡ slice_set self.old lit (slice_index_or self.old lit [] ++ entry ∷ [])) }
     {
-        self.lists[lit].push(entry)?;
-        Ok(())
+        put_into(self.alloc, &mut self.lists[lit], entry)
     }
 
     /// Counts the literals of a clause.

@@ -6,6 +6,7 @@
 #![tactic(auto)]
 
 mod analysis;
+mod block;
 mod choice;
 mod cuts;
 mod guide;

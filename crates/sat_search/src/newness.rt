@@ -4,9 +4,10 @@ ghost use Rattle.kv_clause.specs.Propagation.{clause_at};
 ghost use Rattle.sat_engine.specs.Trail.{IsSet};
 ghost use Rattle.sat_engine.specs.Look.{InRange, AreInRange};
 ghost use Rattle.sat_search.specs.Sketch.{all_set, Lacks, IsSketch, IsWithin};
-ghost use Rattle.sat_search.specs.New.{IsIndexed, IsEarlier, IsPassed, NoneFlagged};
+ghost use Rattle.sat_search.specs.New.{entries_of, IsIndexed, IsEarlier, IsPassed, NoneFlagged};
 ghost use Rattle.kv_clause.specs.Propagation.{Includes};
 
+use crate::block::Block;
 use crate::index::{Entry, Index};
 use crate::words::sketch;
 use sat_engine::Store;
@@ -45,14 +46,14 @@ fn unflag(clause: &[u32], flags: &mut [bool])
 }
 
 // Whether each bit that is unset in the one word is unset in the other.
-fn is_within(one: u64, other: u64) -> bool
+fn is_within(one: u128, other: u128) -> bool
     ensures { result ≡ false → IsWithin one other → ⊥ }
 {
     one & other == other
 }
 
 /// Whether each literal of a listed clause is flagged. The bits of flagged literals are unset in the sketch.
-fn is_found(store: &Store, entry: Entry, sketch: u64, flags: &[bool]) -> bool
+fn is_found(store: &Store, entry: Entry, sketch: u128, flags: &[bool]) -> bool
     requires range { AreInRange store.now (length flags.now) }
     requires sketch { IsWithin all_set sketch }
     requires flagged { (m : ℕ) → IsSet flags.now m → Lacks sketch m }
@@ -68,8 +69,8 @@ fn is_found(store: &Store, entry: Entry, sketch: u64, flags: &[bool]) -> bool
     is_flagged(store.get(entry.number as usize), flags)
 }
 
-/// A clause all of whose literals are flagged, among those under one literal.
-fn among(store: &Store, entries: &[Entry], sketch: u64, flags: &[bool]) -> Option<u32>
+/// A clause all of whose literals are flagged, among those of a block.
+fn among(store: &Store, entries: &[Entry], sketch: u128, flags: &[bool]) -> Option<u32>
     requires range { AreInRange store.now (length flags.now) }
     requires sketch { IsWithin all_set sketch }
     requires flagged { (m : ℕ) → IsSet flags.now m → Lacks sketch m }
@@ -86,8 +87,30 @@ fn among(store: &Store, entries: &[Entry], sketch: u64, flags: &[bool]) -> Optio
     None
 }
 
+/// A clause all of whose literals are flagged, among those under one literal. A block is passed over where its word
+/// says that there is none.
+fn among_blocks(store: &Store, blocks: &[Block], sketch: u128, flags: &[bool]) -> Option<u32>
+    requires range { AreInRange store.now (length flags.now) }
+    requires sketch { IsWithin all_set sketch }
+    requires flagged { (m : ℕ) → IsSet flags.now m → Lacks sketch m }
+    ensures { MatchOption result
+        (NoneFlagged store.now (entries_of blocks.now) flags.now)
+        (λ i. (i < length store.now) × ((m : ℕ) → Contains (clause_at store.now i) m → IsSet flags.now m)) }
+{
+    for block in blocks {
+        if !is_within(block.joint, sketch) {
+            continue;
+        }
+        match among(store, &block.entries, sketch, flags) {
+            Some(i) => return Some(i),
+            None => {}
+        }
+    }
+    None
+}
+
 /// A clause of the store that the given one contains.
-fn seek(store: &Store, index: &Index, clause: &[u32], sketch: u64, flags: &[bool]) -> Option<u32>
+fn seek(store: &Store, index: &Index, clause: &[u32], sketch: u128, flags: &[bool]) -> Option<u32>
     requires range { AreInRange store.now (length flags.now) }
     requires clause { InRange clause.now (length flags.now) }
     requires lists { length index.now ≡ length flags.now }
@@ -98,7 +121,7 @@ fn seek(store: &Store, index: &Index, clause: &[u32], sketch: u64, flags: &[bool
     ensures { IsEarlier store.now clause.now result }
 {
     for m in clause {
-        match among(store, index.get(*m as usize), sketch, flags) {
+        match among_blocks(store, index.get(*m as usize), sketch, flags) {
             Some(i) => return Some(i),
             None => {}
         }

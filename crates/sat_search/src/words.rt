@@ -2,17 +2,17 @@ ghost use Rattle.std.specs.Prelude.{◌≡◌, ◌%◌, ◌<◌, length};
 ghost use Rattle.sat_search.specs.Sketch.{mask_of, IsSketch};
 
 // A word with one bit unset, which the literal says.
-fn mask(lit: u32) -> u64
+fn mask(lit: u32) -> u128
     ensures { result ≡ mask_of lit }
 {
-    u64::MAX ^ (1u64 << (lit % 64))
+    u128::MAX ^ (1u128 << (lit % 128))
 }
 
 /// A word in which each literal of the clause unsets a bit.
-pub fn sketch(clause: &[u32]) -> u64
+pub fn sketch(clause: &[u32]) -> u128
     ensures { IsSketch clause.now result }
 {
-    let mut made = u64::MAX;
+    let mut made = u128::MAX;
     for lit in clause {
         made &= mask(*lit);
     }

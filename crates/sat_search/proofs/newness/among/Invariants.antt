@@ -1,4 +1,4 @@
-use Rattle.std.proofs.Common.{ℕ, ◌<◌, length, take}
+use Rattle.std.proofs.Common.{take}
 use Rattle.sat_search.specs.New.{NoneFlagged}
 use Rattle.sat_search.proofs.newness.among.Given as goal
 

@@ -1,5 +1,4 @@
-use Rattle.std.proofs.Common.{ℕ, ◌≡◌, ◌+◌, ◌<◌, [], List, get_or, length, subst, sym, arith, below_more, ◌∙◌}
-use Rattle.std.specs.List.{Contains}
+use Rattle.std.proofs.Common.{ℕ, ◌≡◌, [], List, get_or, subst, sym, arith, below_more, ◌∙◌}
 use Rattle.std.proofs.lemmas.List.{get_or_default}
 use Rattle.sat_search.specs.declared.index.Entry.{Entry}
 use Rattle.sat_search.specs.New.{IsListed, NoneFlagged}

@@ -1,4 +1,4 @@
-use Rattle.std.proofs.Common.{ℕ, take}
+use Rattle.std.proofs.Common.{take}
 use Rattle.sat_search.specs.Sketch.{IsSketch}
 use Rattle.sat_search.proofs.words.sketch.Given as goal
 
