@@ -98,14 +98,8 @@ fn least_common(index: &Index, clause: &[u32]) -> usize
     best
 }
 
-/// Keeps a learnt clause.
-pub fn record_clause(
-    store: &mut Store,
-    watches: &mut Watches,
-    index: &mut Index,
-    clause: &[u32],
-    watched: Option<(u32, u32)>,
-) -> Result<u32, NoMemory>
+/// Stores a clause and lists it, and gives its number.
+fn list_clause(store: &mut Store, index: &mut Index, clause: &[u32]) -> Result<u32, NoMemory>
     requires some { 0 < length clause.now }
     requires range { InRange clause.now (length index.old) }
     requires indexed { IsIndexed store.old index.old }
@@ -125,6 +119,23 @@ pub fn record_clause(
     };
     index.put(clause[under] as usize, entry)?;
     store.push(clause)?;
+    Ok(number)
+}
+
+/// Keeps a clause, which watches the given two of its literals, if any.
+pub fn record_clause(
+    store: &mut Store,
+    watches: &mut Watches,
+    index: &mut Index,
+    clause: &[u32],
+    watched: Option<(u32, u32)>,
+) -> Result<u32, NoMemory>
+    requires some { 0 < length clause.now }
+    requires range { InRange clause.now (length index.old) }
+    requires indexed { IsIndexed store.old index.old }
+    ensures { IfOk result (λ n. (n ≡ length store.old) × (store.new ≡ store.old ++ clause.now ∷ []) × IsIndexed store.new index.new × (length index.new ≡ length index.old) × (length store.new < 4294967296)) }
+{
+    let number = list_clause(store, index, clause)?;
     match watched {
         Some((one, two)) => watches.add(store, number, one, two)?,
         None => {}

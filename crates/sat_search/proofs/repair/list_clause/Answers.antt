@@ -6,7 +6,7 @@ use Rattle.std.proofs.lemmas.List.Elements.{Contains-get_or}
 use Rattle.sat_search.specs.declared.index.Entry.{Entry}
 use Rattle.sat_search.specs.New.{IsIndexed}
 use Rattle.sat_search.proofs.Repairs.{IsIndexed-push}
-use Rattle.sat_search.proofs.repair.record_clause.Goals as goal
+use Rattle.sat_search.proofs.repair.list_clause.Goals as goal
 
 pub returns : goal.returns
 returns c =
