@@ -32,11 +32,13 @@ pub fn look_at(clause: &[u32], truth: &[bool], other: u32) -> Seen
     let mut found = false;
     for m in clause {
         let m = *m;
-        if m == other {
-            found = true;
-        } else if !truth[complement(m) as usize] {
+        if truth[complement(m) as usize] {
+            continue;
+        }
+        if m != other {
             return Seen::Open(m);
         }
+        found = true;
     }
     if found { Seen::Unit } else { Seen::False }
 }

@@ -1,4 +1,4 @@
-use Rattle.std.proofs.Common.{ℕ, ◌≡◌, ◌≢◌, ◌<◌, true, get_or}
+use Rattle.std.proofs.Common.{ℕ, ◌≡◌, ◌≢◌, ◌<◌, true, false, get_or}
 use Rattle.std.specs.List.{Contains}
 use Rattle.kv_clause.specs.Literals.{complement_of}
 use Rattle.sat_engine.specs.Trail.{IsSet}
@@ -8,5 +8,5 @@ abbrev pub invariant-loop-m : goal.invariant-loop-m
 invariant-loop-m l = record {
   others : (k : ℕ) → k < l.m-index → get_or l.clause k 0 ≢ l.other → IsSet l.truth (complement_of (get_or l.clause k 0));
   seen : l.found ≡ true → Contains l.clause l.other;
-  none : (k : ℕ) → k < l.m-index → get_or l.clause k 0 ≡ l.other → l.found ≡ true;
+  none : l.found ≡ false → (k : ℕ) → k < l.m-index → IsSet l.truth (complement_of (get_or l.clause k 0));
 }
