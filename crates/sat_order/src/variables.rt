@@ -148,10 +148,10 @@ impl Order {
         }
     }
 
-    /// Lets what was raised so far count for less: 19 parts of 20.
+    /// Lets what was raised so far count for less: 99 parts of 100.
     pub fn decay(&mut self)
         ensures { self.new ≡ self.old }
     {
-        self.step /= 0.95;
+        self.step /= 0.99;
     }
 }

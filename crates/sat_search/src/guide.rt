@@ -6,7 +6,7 @@ use sat_order::{Order, luby};
 use std::alloc::Global;
 
 /// How many clauses the shortest run learns.
-const RUN: u64 = 100;
+const RUN: u64 = 200;
 
 /// After how many conflicts the number of clauses that may be forgotten is first let grow.
 const GROW: u64 = 100;
