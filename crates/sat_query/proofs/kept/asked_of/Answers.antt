@@ -19,4 +19,5 @@ returns-in-Unsat-clause-answer g c =
     let e = c.in_ok-found.ensures in
     let s = c.args.solver.now in
     let t = c.solve.new.self in
-    (subst (λ (x : Answer). AnswerSays t.vars s.clauses t.clauses c.args.asked.now c.args.budget x) c.in-Unsat.is e.answer).1
+    let says = subst (λ (x : Answer). AnswerSays t.vars s.clauses t.clauses c.args.asked.now c.args.budget x) c.in-Unsat.is e.answer in
+    record { none_meets = says.1; refuted = says.0 }
