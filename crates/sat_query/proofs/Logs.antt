@@ -1,13 +1,12 @@
 -- What a solver learnt of clauses, as a log.
-use Rattle.std.proofs.Common.{ℕ, ◌≡◌, ◌≢◌, ◌+◌, ◌-◌, ◌<◌, ◌≤◌, ◌++◌, inl, inr, List, [], ◌∷◌, length, get_or, take, drop, map, Bool, refl, sym, ap, subst, ◌∙◌, arith}
-use Rattle.std.specs.List.{Contains}
-use Rattle.std.proofs.lemmas.List.{length-append, length_push, length-drop, take-append-drop, take-append-le, take_all, get_or_append_left, get_or_push}
+use Rattle.std.proofs.Common.{ℕ, ◌≡◌, ◌≢◌, ◌+◌, ◌<◌, ◌≤◌, ◌++◌, inl, inr, List, [], ◌∷◌, length, take, drop, Bool, refl, sym, ap, subst, ◌∙◌, arith}
+use Rattle.std.proofs.lemmas.List.{length-append, length_push, take-append-drop, take-append-le, take_all, get_or_append_left, get_or_push}
 use Rattle.std.proofs.lemmas.List.Elements.{All-take}
 use Rattle.std.proofs.Math.Seq.{take-append-add, get_or-append_right}
-use Rattle.kv_clause.specs.Literals.{variable_of, complement_of, AreBelow, ClausesAreBelow, MeetsAll, AreTrue}
-use Rattle.kv_clause.specs.Propagation.{clause_at, Follows, Refuted, Conflict, HasComplements, IncludesNone, IsProper, Spent}
+use Rattle.kv_clause.specs.Literals.{AreBelow, ClausesAreBelow, MeetsAll}
+use Rattle.kv_clause.specs.Propagation.{clause_at, Follows, Refuted, IsProper, Spent}
 use Rattle.kv_clause.proofs.Truths.{met_left}
-use Rattle.proof_checker.specs.Checking.{StepFollows, FollowsTo, NoneEmptyTo, IsRefutation, IsLearnt as IsLearntLog}
+use Rattle.proof_checker.specs.Checking.{IsRefutation, IsLearnt as IsLearntLog}
 use Rattle.sat_core.specs.Solving.{IsNew, IsLearnt}
 
 module _ (n : ℕ) (F G L : List (List ℕ)) (l : IsLearnt n F G) (log : L ≡ drop (length F) G) where

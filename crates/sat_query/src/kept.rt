@@ -97,8 +97,8 @@ impl Kept {
     }
 
     /// Searches for an assignment that meets all clauses and makes the asked literals true, with a budget of clauses to
-    /// learn, none where it is 0. A yes of the poll is its last ask. A checker with the clauses added and
-    /// learnt confirms an `Unsat`.
+    /// learn, none where it is 0. A yes of the poll is its last ask. A checker with the clauses added and learnt
+    /// confirms an `Unsat`.
     pub fn ask<P: Poll>(
         &mut self,
         asked: &Lits,

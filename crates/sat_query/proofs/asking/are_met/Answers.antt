@@ -1,4 +1,4 @@
-use Rattle.std.proofs.Common.{ℕ, ◌≡◌, ◌<◌, ◌≤◌, List, [], length, Bool, true, false, MatchBool, IsTrue, arith, rules, tests, refl}
+use Rattle.std.proofs.Common.{ℕ, ◌<◌, List, [], length, Bool, true, false, MatchBool, IsTrue, arith, rules, tests, refl}
 use Rattle.std.specs.List.{HoldsAt, AllWithin}
 use Rattle.std.proofs.lemmas.Iterator.{cases_from_all, YieldsList-from_slice}
 use Rattle.std.proofs.lemmas.Bool.{false≢true}

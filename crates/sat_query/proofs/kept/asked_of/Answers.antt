@@ -1,9 +1,8 @@
-use Rattle.std.proofs.Common.{ℕ, ◌≡◌, ◌+◌, ◌<◌, ◌++◌, List, Bool, length, drop, sym, ap, subst, ◌∙◌, arith}
-use Rattle.std.proofs.lemmas.List.{length-append, length-drop}
-use Rattle.kv_clause.specs.Literals.{MeetsAll, AreTrue, truths}
+use Rattle.std.proofs.Common.{subst}
+use Rattle.kv_clause.specs.Literals.{truths}
 use Rattle.sat_core.specs.declared.solver.Answer.{Answer}
-use Rattle.sat_core.specs.Solving.{AnswerSays, IsLearnt}
-use Rattle.sat_query.proofs.Logs.{met_front, log_length}
+use Rattle.sat_core.specs.Solving.{AnswerSays}
+use Rattle.sat_query.proofs.Logs.{met_front}
 use Rattle.sat_query.proofs.kept.asked_of.Goals as goal
 
 pub returns-in-Sat-clause-answer : goal.returns-in-Sat-clause-answer
