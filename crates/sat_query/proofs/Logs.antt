@@ -1,12 +1,12 @@
 -- What a solver learnt of clauses, as a log.
-use Rattle.std.proofs.Common.{ℕ, ◌≡◌, ◌≢◌, ◌+◌, ◌-◌, ◌<◌, ◌≤◌, ◌++◌, inl, inr, List, [], ◌∷◌, length, get_or, take, drop, map, Bool, refl, sym, ap, subst, ◌∙◌, arith}
-use Rattle.std.specs.List.{Contains}
-use Rattle.std.proofs.lemmas.List.{length-append, length_push, length-drop, take-append-drop, take-append-le, take_all, get_or_append_left, get_or_push}
+use Rattle.std.proofs.Common.{ℕ, ◌≡◌, ◌≢◌, ◌+◌, ◌<◌, ◌≤◌, ◌++◌, inl, inr, List, [], ◌∷◌, length, take, drop, Bool, refl, sym, ap, subst, ◌∙◌, arith}
+use Rattle.std.proofs.lemmas.List.{length-append, length_push, take-append-drop, take-append-le, take_all, get_or_append_left, get_or_push}
+use Rattle.std.proofs.lemmas.List.Elements.{All-take}
 use Rattle.std.proofs.Math.Seq.{take-append-add, get_or-append_right}
-use Rattle.kv_clause.specs.Literals.{variable_of, complement_of, AreBelow, ClausesAreBelow, MeetsAll, AreTrue}
-use Rattle.kv_clause.specs.Propagation.{clause_at, Follows, Refuted, Conflict, HasComplements, IncludesNone, IsProper, Spent}
+use Rattle.kv_clause.specs.Literals.{AreBelow, ClausesAreBelow, MeetsAll}
+use Rattle.kv_clause.specs.Propagation.{clause_at, Follows, Refuted, IsProper, Spent}
 use Rattle.kv_clause.proofs.Truths.{met_left}
-use Rattle.proof_checker.specs.Checking.{StepFollows, FollowsTo, NoneEmptyTo, IsRefutation}
+use Rattle.proof_checker.specs.Checking.{IsRefutation, IsLearnt as IsLearntLog}
 use Rattle.sat_core.specs.Solving.{IsNew, IsLearnt}
 
 module _ (n : ℕ) (F G L : List (List ℕ)) (l : IsLearnt n F G) (log : L ≡ drop (length F) G) where
@@ -55,6 +55,14 @@ module _ (n : ℕ) (F G L : List (List ℕ)) (l : IsLearnt n F G) (log : L ≡ d
       from_refuted (inl c) = inl c
       from_refuted (inr h) = absurd (omega (arith, h.1.1))
 
+  -- the log as a check sees it
+  pub learnt_log : (budget : ℕ) → length L ≡ budget → IsLearntLog F L budget
+  learnt_log budget e = record {
+    whole = sym e;
+    follow = λ j h. (new_at j (omega arith)).follows;
+    nonempty = λ j h. nonempty_at j (omega arith);
+  }
+
   -- a budget that is spent
   pub spent : (m budget : ℕ) → n ≤ m → length L ≡ budget → Spent m F budget L
   spent m budget le e = record {
@@ -70,6 +78,10 @@ module _ (n : ℕ) (F G L : List (List ℕ)) (l : IsLearnt n F G) (log : L ≡ d
 -- what is met with all that was learnt is met without it
 pub met_front : (n : ℕ) (F G : List (List ℕ)) → IsLearnt n F G → (A : ℕ → Bool) → MeetsAll A G → MeetsAll A F
 met_front n F G l A m = met_left A F (drop (length F) G) (subst (MeetsAll A) (whole n F G (drop (length F) G) l refl) m)
+
+-- and the clauses are over as many variables
+pub below_front : (n : ℕ) (F G : List (List ℕ)) → IsLearnt n F G → (m : ℕ) → ClausesAreBelow m G → ClausesAreBelow m F
+below_front n F G l m b = subst (ClausesAreBelow m) l.front (All-take (AreBelow m) (length F) G b)
 
 pub log_length : (n : ℕ) (F G L : List (List ℕ)) → IsLearnt n F G → L ≡ drop (length F) G → length G ≡ length F + length L
 log_length n F G L l e = size n F G L l e

@@ -1,16 +1,18 @@
-ghost use Rattle.std.specs.Prelude.{ℕ, ◌≡◌, ◌+◌, ◌<◌, ◌≤◌, ◌++◌, ◌∷◌, [], false, length, IfOk, OnOk};
+ghost use Rattle.std.specs.Prelude.{ℕ, ◌≡◌, ◌+◌, ◌<◌, ◌≤◌, ◌++◌, ◌∷◌, ◌↔◌, [], false, length, IfOk, IsTrue, OnOk};
 ghost use Rattle.kv_clause.specs.Literals.{ClausesAreBelow};
-ghost use Rattle.sat_query.specs.Asking.{AskedOften, AskedSays, YesSays};
+ghost use Rattle.proof_checker.specs.Checking.{IsLearnt, IsRefutation};
+ghost use Rattle.sat_query.specs.Asking.{AskedOften, AskedSays, IsClauseMet, IsConfirmed, IsMet, YesSays};
 
 use kv_base::{Copied, NoMemory, Sequence};
-use kv_clause::{Assignment, Clauses, Cnf, Log};
+use kv_clause::{Assignment, Clause, Clauses, Cnf, Log, are_below, holds};
+use proof_checker::{Checked, check};
 use sat_core::{Answer, Poll, Solver};
 use std::alloc::Global;
 
 /// What is answered about clauses.
 #[derive(Debug, Drop)]
 pub enum Asked {
-    /// This assignment meets them.
+    /// This assignment meets them, and has a value for each of their variables.
     Sat(Assignment),
     /// No assignment does: each clause of this log follows, and the last is empty.
     Unsat(Log),
@@ -42,9 +44,8 @@ fn ended(alloc: Global, log: &Log) -> Result<Log, NoMemory>
     Ok(made)
 }
 
-/// Searches for an assignment that meets the clauses, with a budget of clauses to learn, none where it is 0. The poll
-/// is asked at least once for each clause learnt, and a yes is the last ask.
-pub fn ask<P: Poll>(alloc: Global, cnf: &Cnf, budget: u32, poll: &mut P) -> Result<Asked, NoMemory>
+// Searches for the answer.
+fn search<P: Poll>(alloc: Global, cnf: &Cnf, budget: u32, poll: &mut P) -> Result<Asked, NoMemory>
     requires { P.ready poll.old }
     ensures answer { IfOk result (λ asked. AskedSays cnf.now.vars cnf.now.clauses budget asked) }
     ensures poll { P.ready poll.new }
@@ -59,4 +60,70 @@ pub fn ask<P: Poll>(alloc: Global, cnf: &Cnf, budget: u32, poll: &mut P) -> Resu
         Answer::Spent => Ok(Asked::Spent(solver.log().copy(alloc)?)),
         Answer::Stopped => Ok(Asked::Stopped),
     }
+}
+
+// Whether the assignment has a value for each variable of the clause, and some literal of it is true.
+fn is_met(clause: &Clause, assignment: &Assignment) -> bool
+    ensures { IsTrue result ↔ IsClauseMet clause.now assignment.now }
+{
+    are_below(clause, assignment.len() as u64) && holds(clause, assignment)
+}
+
+// Whether the assignment meets each of the clauses.
+fn are_met(clauses: &Clauses, assignment: &Assignment) -> bool
+    ensures { IsTrue result ↔ IsMet clauses.now assignment.now }
+{
+    clauses
+        .as_slice()
+        .iter()
+        .all(|clause| is_met(clause, assignment))
+}
+
+// Whether the log is checked to refute the clauses.
+fn refutes(alloc: Global, cnf: &Cnf, log: &Log) -> Result<bool, NoMemory>
+    ensures { IfOk result (λ refuted. IsTrue refuted ↔ IsRefutation cnf.now.clauses log.now) }
+{
+    let checked = check(alloc, cnf, log)?;
+    Ok(matches!(checked, Checked::Refutes))
+}
+
+// Whether the log is checked to have as many clauses as the budget, all of which follow and none of which is empty.
+fn spends(alloc: Global, cnf: &Cnf, log: &Log, budget: u32) -> Result<bool, NoMemory>
+    ensures { IfOk result (λ spent. IsTrue spent ↔ IsLearnt cnf.now.clauses log.now budget) }
+{
+    let checked = check(alloc, cnf, log)?;
+    Ok(matches!(checked, Checked::Learns(many) if many == budget as usize))
+}
+
+// Whether the answer is confirmed by evaluating its assignment or checking its log, which it always is.
+fn is_confirmed(alloc: Global, cnf: &Cnf, budget: u32, asked: &Asked) -> Result<bool, NoMemory>
+    ensures exact { IfOk result (λ confirmed. IsTrue confirmed ↔ IsConfirmed cnf.now.clauses budget asked.now) }
+    ensures always { AskedSays cnf.now.vars cnf.now.clauses budget asked.now → IfOk result IsTrue }
+{
+    match asked {
+        Asked::Sat(found) => Ok(are_met(&cnf.clauses, found)),
+        Asked::Unsat(log) => refutes(alloc, cnf, log),
+        Asked::Spent(log) => spends(alloc, cnf, log, budget),
+        Asked::Stopped => Ok(true),
+    }
+}
+
+/// Searches for an assignment that meets the clauses, with a budget of clauses to learn, none where it is 0. The poll
+/// is asked at least once for each clause learnt, and a yes is the last ask. Before it answers, it evaluates the
+/// assignment on each clause, or checks the log.
+pub fn ask<P: Poll>(alloc: Global, cnf: &Cnf, budget: u32, poll: &mut P) -> Result<Asked, NoMemory>
+    requires { P.ready poll.old }
+    ensures answer { IfOk result (λ asked. AskedSays cnf.now.vars cnf.now.clauses budget asked) }
+    ensures poll { P.ready poll.new }
+    ensures held { P.held poll.new ≡ P.held poll.old }
+    ensures asks { IfOk result (λ asked. AskedOften (P.asks poll.old) (P.asks poll.new) asked) }
+    ensures yeses { IfOk result (λ asked. YesSays (P.yeses poll.old) (P.yeses poll.new) asked) }
+{
+    let asked = search(alloc, cnf, budget, poll)?;
+    // Each answer is proved to be confirmed. The test is there for a program that was compiled wrongly, and an
+    // `unreachable!` in it would let the compiler leave it out.
+    if !is_confirmed(alloc, cnf, budget, &asked)? {
+        return Err(NoMemory);
+    }
+    Ok(asked)
 }

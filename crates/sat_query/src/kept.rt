@@ -14,7 +14,8 @@ use std::marker::Model;
 pub enum KeptAnswer {
     /// This assignment meets all clauses added, and the asked literals are true.
     Sat(Assignment),
-    /// No assignment does.
+    /// No assignment does: propagating the asked literals over the clauses added and learnt reaches one with every
+    /// literal false, or two of them are complementary.
     Unsat,
     /// The budget is spent: the whole log, which grew by so many clauses.
     Spent(Log),
@@ -52,7 +53,7 @@ fn asked_of<P: Poll>(
     ensures learnt { OnOk result (IsLearnt solver.new.vars solver.old.clauses solver.new.clauses) }
     ensures log { OnOk result (solver.new.log ≡ solver.old.log ++ drop (length solver.old.clauses) solver.new.clauses) }
     ensures within { OnOk result (0 < budget → length solver.new.clauses ≤ length solver.old.clauses + budget) }
-    ensures answer { IfOk result (λ answer. KeptSays solver.old.clauses solver.old.log solver.new.log asked.now budget answer) }
+    ensures answer { IfOk result (λ answer. KeptSays solver.old.clauses solver.new.clauses solver.old.log solver.new.log asked.now budget answer) }
     ensures poll { P.ready poll.new }
     ensures held { P.held poll.new ≡ P.held poll.old }
     ensures asks { OnOk result (raised_by (length solver.new.clauses - length solver.old.clauses) (P.asks poll.old) ≤ P.asks poll.new) }
@@ -96,7 +97,8 @@ impl Kept {
     }
 
     /// Searches for an assignment that meets all clauses and makes the asked literals true, with a budget of clauses to
-    /// learn, none where it is 0. A yes of the poll is its last ask.
+    /// learn, none where it is 0. A yes of the poll is its last ask. A checker with the clauses added and learnt
+    /// confirms an `Unsat`.
     pub fn ask<P: Poll>(
         &mut self,
         asked: &Lits,
@@ -107,7 +109,7 @@ impl Kept {
         ensures learnt { OnOk result (IsLearnt self.new.vars self.old.clauses self.new.clauses) }
         ensures log { OnOk result (self.new.log ≡ self.old.log ++ drop (length self.old.clauses) self.new.clauses) }
         ensures within { OnOk result (0 < budget → length self.new.clauses ≤ length self.old.clauses + budget) }
-        ensures answer { IfOk result (λ answer. KeptSays self.old.clauses self.old.log self.new.log asked.now budget answer) }
+        ensures answer { IfOk result (λ answer. KeptSays self.old.clauses self.new.clauses self.old.log self.new.log asked.now budget answer) }
         ensures working { OnOk result (self.new.refused ≡ false) }
         ensures broken { OnErr result (self.new.refused ≡ true) }
         ensures refused { self.old.refused ≡ true → IsErr result }
@@ -123,5 +125,12 @@ impl Kept {
         let answer = asked_of(self.alloc, &mut self.solver, asked, budget, poll)?;
         self.is_refused = false;
         Ok(answer)
+    }
+
+    /// The clauses that were learnt, in the order in which they were.
+    pub fn log(&self) -> &Log
+        ensures { result.now ≡ self.now.log }
+    {
+        self.solver.log()
     }
 }

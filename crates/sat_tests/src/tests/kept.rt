@@ -1,6 +1,6 @@
 use crate::tests::clauses::{lits, pigeons};
 use kv_base::NoMemory;
-use kv_clause::Clauses;
+use kv_clause::{Clauses, Log};
 use proof_checker::Checker;
 use sat_core::NeverPoll;
 use sat_query::{Kept, KeptAnswer};
@@ -53,5 +53,37 @@ fn a_checker_learns(rt: HostRuntime) -> Result<(), Fail> {
     checker.add(&lits(rt.alloc(), &[1])?)?;
     assert!(rt; checker.learn(&lits(rt.alloc(), &[2])?)?);
     assert!(rt; checker.refutes(&lits(rt.alloc(), &[-2])?)?);
+    Ok(())
+}
+
+fn checker_of(alloc: Global, clauses: &Clauses) -> Result<Checker, NoMemory> {
+    let mut checker = Checker::new(alloc);
+    for clause in clauses.as_slice() {
+        checker.add(clause)?;
+    }
+    Ok(checker)
+}
+
+fn learns(checker: &mut Checker, log: &Log) -> Result<bool, NoMemory> {
+    for clause in log.as_slice() {
+        if !checker.learn(clause)? {
+            return Ok(false);
+        }
+    }
+    Ok(true)
+}
+
+#[test]
+fn a_checker_confirms_what_is_refuted(rt: HostRuntime) -> Result<(), Fail> {
+    let clauses = pigeons(rt.alloc())?.clauses;
+    let mut kept = Kept::new(rt.alloc());
+    add_all(&mut kept, &clauses)?;
+    let answer = asked(rt.alloc(), &mut kept, &[1], 0)?;
+    assert!(rt; matches!(&answer, KeptAnswer::Unsat));
+    let mut checker = checker_of(rt.alloc(), &clauses)?;
+    let first = lits(rt.alloc(), &[1])?;
+    assert!(rt; !checker.refutes(&first)?);
+    assert!(rt; learns(&mut checker, kept.log())?);
+    assert!(rt; checker.refutes(&first)?);
     Ok(())
 }

@@ -1,9 +1,8 @@
-use Rattle.std.proofs.Common.{ℕ, ◌≡◌, ◌+◌, ◌<◌, ◌++◌, List, Bool, length, drop, sym, ap, subst, ◌∙◌, arith}
-use Rattle.std.proofs.lemmas.List.{length-append, length-drop}
-use Rattle.kv_clause.specs.Literals.{MeetsAll, AreTrue, truths}
+use Rattle.std.proofs.Common.{subst}
+use Rattle.kv_clause.specs.Literals.{truths}
 use Rattle.sat_core.specs.declared.solver.Answer.{Answer}
-use Rattle.sat_core.specs.Solving.{AnswerSays, IsLearnt}
-use Rattle.sat_query.proofs.Logs.{met_front, log_length}
+use Rattle.sat_core.specs.Solving.{AnswerSays}
+use Rattle.sat_query.proofs.Logs.{met_front}
 use Rattle.sat_query.proofs.kept.asked_of.Goals as goal
 
 pub returns-in-Sat-clause-answer : goal.returns-in-Sat-clause-answer
@@ -19,4 +18,5 @@ returns-in-Unsat-clause-answer g c =
     let e = c.in_ok-found.ensures in
     let s = c.args.solver.now in
     let t = c.solve.new.self in
-    (subst (λ (x : Answer). AnswerSays t.vars s.clauses t.clauses c.args.asked.now c.args.budget x) c.in-Unsat.is e.answer).1
+    let says = subst (λ (x : Answer). AnswerSays t.vars s.clauses t.clauses c.args.asked.now c.args.budget x) c.in-Unsat.is e.answer in
+    record { none_meets = says.1; refuted = says.0 }

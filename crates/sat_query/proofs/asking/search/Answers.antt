@@ -5,9 +5,10 @@ use Rattle.kv_clause.specs.Propagation.{Refuted, Spent}
 use Rattle.sat_core.specs.declared.solver.Answer.{Answer}
 use Rattle.sat_core.specs.Solving.{AnswerSays, IsLearnt}
 use Rattle.sat_core.specs.Counts.{raised_by}
-use Rattle.sat_query.specs.Asking.{NoneMeets, IsShort}
-use Rattle.sat_query.proofs.Logs.{met_front, log_length, refutation, spent}
-use Rattle.sat_query.proofs.asking.ask.Goals as goal
+use Rattle.proof_checker.specs.Checking.{IsLearnt as IsLearntLog}
+use Rattle.sat_query.specs.Asking.{IsMet, NoneMeets, IsShort}
+use Rattle.sat_query.proofs.Logs.{met_front, below_front, log_length, refutation, learnt_log, spent}
+use Rattle.sat_query.proofs.asking.search.Goals as goal
 
 -- the log of a refutation, with the empty clause at its end
 short : (n : ℕ) (F G L M E A : List (List ℕ)) (asked : List ℕ) (budget : ℕ) → F ≡ E → IsLearnt n F G → L ≡ M ++ drop (length F) G → M ≡ [] → A ≡ L ++ [] ∷ [] → asked ≡ [] → (0 < budget → length G ≤ length F + budget) → Refuted G asked → IsShort E budget A
@@ -28,7 +29,11 @@ returns-in-Sat-clause-answer g c =
     let s = c.in_ok-solver.solver in
     let t = c.solve-2.new.self in
     let says = subst (λ (x : Answer). AnswerSays t.vars s.clauses t.clauses c.new.result c.args.budget x) c.in-Sat.is e.answer in
-    subst (MeetsAll (truths c.in-Sat.found)) c.in_ok-solver.ensures.clauses (met_front t.vars s.clauses t.clauses e.learnt (truths c.in-Sat.found) says.clauses)
+    let over : ClausesAreBelow t.vars s.clauses = below_front t.vars s.clauses t.clauses e.learnt t.vars says.over in
+    subst (λ (F : List (List ℕ)). IsMet F c.in-Sat.found) c.in_ok-solver.ensures.clauses (record {
+      over = subst (λ (n : ℕ). ClausesAreBelow n s.clauses) (sym says.size) over;
+      clauses = met_front t.vars s.clauses t.clauses e.learnt (truths c.in-Sat.found) says.clauses;
+    })
 
 pub returns-in-Unsat-clause-answer : goal.returns-in-Unsat-clause-answer
 returns-in-Unsat-clause-answer g c =
@@ -45,12 +50,12 @@ returns-in-Unsat-clause-answer g c =
 none_asked : (n : ℕ) (asked : List ℕ) → asked ≡ [] → AreBelow n asked
 none_asked n asked e k d lt = absurd (omega (arith, ap length e))
 
-spent_with : (n m : ℕ) (F G L M E A : List (List ℕ)) (budget : ℕ) → F ≡ E → IsLearnt n F G → L ≡ M ++ drop (length F) G → M ≡ [] → A ≡ L → length G ≡ length F + budget → (length A ≡ budget) × (n ≤ m → Spent m E budget A)
+spent_with : (n m : ℕ) (F G L M E A : List (List ℕ)) (budget : ℕ) → F ≡ E → IsLearnt n F G → L ≡ M ++ drop (length F) G → M ≡ [] → A ≡ L → length G ≡ length F + budget → IsLearntLog E A budget × (n ≤ m → Spent m E budget A)
 spent_with n m F G L M E A budget ef l el em ea full =
     let log : L ≡ drop (length F) G = el ∙ ap (λ (x : List (List ℕ)). x ++ drop (length F) G) em in
     let size = log_length n F G L l log in
     let many : length L ≡ budget = omega arith in (
-      ap length ea ∙ many,
+      subst (λ (x : List (List ℕ)). IsLearntLog x A budget) ef (subst (λ (x : List (List ℕ)). IsLearntLog F x budget) (sym ea) (learnt_log n F G L l log budget many)),
       λ le. subst (λ (x : List (List ℕ)). Spent m x budget A) ef (subst (λ (x : List (List ℕ)). Spent m F budget x) (sym ea) (spent n F G L l log m budget le many)),
     )
 
@@ -62,7 +67,11 @@ returns-in-Spent-clause-answer g c =
     let t = c.solve-2.new.self in
     let says = subst (λ (x : Answer). AnswerSays t.vars s.clauses t.clauses c.new.result c.args.budget x) c.in-Spent.is e.answer in
     let w = spent_with t.vars c.args.cnf.now.vars s.clauses t.clauses t.log s.log c.args.cnf.now.clauses c.in_ok-copy-in-Spent.field-0 c.args.budget b.clauses e.learnt e.log b.log (c.in_ok-copy-in-Spent.ensures ∙ c.log-in-Spent.ensures) says.1 in
-    (says.0, w.0, λ all. w.1 (e.vars.least c.args.cnf.now.vars (b.vars c.args.cnf.now.vars all) (none_asked c.args.cnf.now.vars c.new.result c.new.ensures)))
+    record {
+      limited = says.0;
+      learnt = w.0;
+      spent = λ all. w.1 (e.vars.least c.args.cnf.now.vars (b.vars c.args.cnf.now.vars all) (none_asked c.args.cnf.now.vars c.new.result c.new.ensures));
+    }
 
 -- as many asks as clauses of the log
 often : (n : ℕ) (F G L M : List (List ℕ)) (many before now : ℕ) → IsLearnt n F G → L ≡ M ++ drop (length F) G → M ≡ [] → many ≡ length L → raised_by (length G - length F) before ≤ now → raised_by many before ≤ now
