@@ -1,8 +1,8 @@
-use Rattle.std.proofs.Common.{ℕ, ◌≡◌, ◌≢◌, ◌+◌, ◌-◌, ◌/◌, ◌<◌, ◌≤◌, ◌++◌, inl, inr, List, [], ◌∷◌, length, get_or, take, set, Bool, false, None, Some, Option, MatchOption, sym, ap, subst, ◌∙◌, arith}
+use Rattle.std.proofs.Common.{ℕ, ◌≡◌, ◌≢◌, ◌+◌, ◌-◌, ◌/◌, ◌<◌, ◌≤◌, ◌++◌, inl, inr, List, [], ◌∷◌, length, get_or, take, set, Bool, false, None, Some, Option, MatchOption, refl, sym, ap, subst, ◌∙◌, arith}
 use Rattle.std.specs.List.{Contains}
 use Rattle.std.proofs.lemmas.Bool.{cases_eq, cases_lt, false≢true}
 use Rattle.std.proofs.lemmas.List.{length-append, length-take-le, length_push, get_or-take, get_or_append_left, get_or_push, get_or_default, get_or-set_same, get_or-set_other, take-take}
-use Rattle.std.proofs.lemmas.List.Elements.{Contains-push_cases, Contains-get_or, Contains-append_left, Contains-push}
+use Rattle.std.proofs.lemmas.List.Elements.{Contains-push_cases, Contains-get_or}
 use Rattle.kv_clause.specs.Literals.{complement_of}
 use Rattle.kv_clause.specs.Propagation.{clause_at, Conflict}
 use Rattle.kv_clause.proofs.Truths.{complement_twice, complement_variable}
@@ -16,7 +16,7 @@ use Rattle.sat_search.specs.declared.repair.Spot.{Spot}
 use Rattle.sat_search.specs.Analysis.{IsSite, IsLearnt}
 use Rattle.sat_search.specs.declared.index.Entry.{Entry}
 use Rattle.sat_search.specs.Sketch.{IsSketch}
-use Rattle.sat_search.specs.New.{IsEntry, IsIndexed}
+use Rattle.sat_search.specs.New.{IsEntry, IsPut, IsIndexed}
 use Rattle.sat_search.specs.State.{is_choice, IsState}
 use Rattle.sat_search.specs.Choice.{IsLastPlace, IsChoiceAt, NoChoice}
 use Rattle.sat_search.specs.Repair.{IsBack, IsSpot, IsJump}
@@ -77,36 +77,36 @@ module _ (F : List (List ℕ)) (A : List ℕ) (steps : List Step) (truth : List 
       clash f = cc
 
 -- a clause that was listed under one of its literals
-pub IsIndexed-push : (F : List (List ℕ)) (lists : List (List Entry)) (c : List ℕ) (l : ℕ) (n : Entry) → IsIndexed F lists → l < length lists → Contains c l → n.number ≡ length F → IsSketch c n.sketch → IsIndexed (F ++ c ∷ []) (set lists l (get_or lists l [] ++ n ∷ []))
-IsIndexed-push F lists c l n ix lt has e sk i h = elim (cases_lt i (length F)) [
+pub IsIndexed-push : (F : List (List ℕ)) (lists : List (List Entry)) (c : List ℕ) (l : ℕ) (n : Entry) (here : List Entry) → IsIndexed F lists → l < length lists → Contains c l → n.number ≡ length F → IsSketch c n.sketch → IsPut (get_or lists l []) n here → IsIndexed (F ++ c ∷ []) (set lists l here)
+IsIndexed-push F lists c l n here ix lt has e sk put i h = elim (cases_lt i (length F)) [
   | inl below ↦
       let w = ix i below in
       let same : clause_at F i ≡ clause_at (F ++ c ∷ []) i = sym (get_or_append_left F (c ∷ []) [] i below) in
-      let here : IsEntry F i w.2.0 = w.2.2 in
-      let there : IsEntry (F ++ c ∷ []) i w.2.0 = record {
-        number = here.number;
-        sketch = subst (λ (x : List ℕ). IsSketch x w.2.0.sketch) same here.sketch;
+      let was : IsEntry F i w.2.0 = w.2.2 in
+      let is : IsEntry (F ++ c ∷ []) i w.2.0 = record {
+        number = was.number;
+        sketch = subst (λ (x : List ℕ). IsSketch x w.2.0.sketch) same was.sketch;
       } in
-      (w.0, subst (λ (x : List ℕ). Contains x w.0) same w.1, (w.2.0, kept w.0 w.2.0 w.2.1, there))
+      (w.0, subst (λ (x : List ℕ). Contains x w.0) same w.1, (w.2.0, kept w.0 w.2.0 w.2.1, is))
   | inr above ↦
       let len = length-append F (c ∷ []) in
       let same : length F ≡ i = omega (arith, len, h) in
-      let here : c ≡ clause_at (F ++ c ∷ []) i = sym (get_or_push F c [] i same) in
-      let entry : IsEntry (F ++ c ∷ []) i n = record {
+      let clause : c ≡ clause_at (F ++ c ∷ []) i = sym (get_or_push F c [] i same) in
+      let is : IsEntry (F ++ c ∷ []) i n = record {
         number = e ∙ same;
-        sketch = subst (λ (x : List ℕ). IsSketch x n.sketch) here sk;
+        sketch = subst (λ (x : List ℕ). IsSketch x n.sketch) clause sk;
       } in (
         l,
-        subst (λ (x : List ℕ). Contains x l) here has,
-        (n, subst (λ (x : List Entry). Contains x n) (sym (get_or-set_same lists l (get_or lists l [] ++ n ∷ []) [] lt)) (Contains-push (get_or lists l []) n), entry),
+        subst (λ (x : List ℕ). Contains x l) clause has,
+        (n, subst (λ (x : List Entry). Contains x n) (sym (get_or-set_same lists l here [] lt)) ((put n).1 (inr refl)), is),
       )
 ]
   where
-    kept : (m : ℕ) (i : Entry) → Contains (get_or lists m []) i → Contains (get_or (set lists l (get_or lists l [] ++ n ∷ [])) m []) i
+    kept : (m : ℕ) (i : Entry) → Contains (get_or lists m []) i → Contains (get_or (set lists l here) m []) i
     kept m i w = elim (cases_eq m l) [
-      | inl e ↦ subst (λ (x : ℕ). Contains (get_or (set lists l (get_or lists l [] ++ n ∷ [])) x []) i) (sym e)
-          (subst (λ (x : List Entry). Contains x i) (sym (get_or-set_same lists l (get_or lists l [] ++ n ∷ []) [] lt)) (Contains-append_left (get_or lists l []) (n ∷ []) i (subst (λ (x : ℕ). Contains (get_or lists x []) i) e w)))
-      | inr ne ↦ subst (λ (x : List Entry). Contains x i) (sym (get_or-set_other lists l m (get_or lists l [] ++ n ∷ []) [] ne)) w
+      | inl e ↦ subst (λ (x : ℕ). Contains (get_or (set lists l here) x []) i) (sym e)
+          (subst (λ (x : List Entry). Contains x i) (sym (get_or-set_same lists l here [] lt)) ((put i).1 (inl (subst (λ (x : ℕ). Contains (get_or lists x []) i) e w))))
+      | inr ne ↦ subst (λ (x : List Entry). Contains x i) (sym (get_or-set_other lists l m here [] ne)) w
     ]
 
 pub IsBack-from : (steps : List Step) (place here : List ℕ) (start : ℕ) (c : List ℕ) (last : Option ℕ) (from to : ℕ) → 0 < length c → start ≤ length steps → place ≡ here

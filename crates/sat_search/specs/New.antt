@@ -1,4 +1,4 @@
-use Rattle.std.specs.Prelude.{ℕ, ◌≡◌, ◌<◌, List, [], length, slice_index_or, Bool, Option, None, Some}
+use Rattle.std.specs.Prelude.{ℕ, ◌≡◌, ◌<◌, ◌↔◌, ◌⊎◌, List, [], length, slice_index_or, Bool, Option, None, Some}
 use Rattle.std.specs.List.{Contains, flat_map}
 use Rattle.sat_engine.specs.Trail.{IsSet}
 use Rattle.sat_search.specs.Sketch.{IsSketch}
@@ -9,6 +9,10 @@ use Rattle.kv_clause.specs.Propagation.{clause_at, Includes}
 -- the entries of the blocks, one after another
 abbrev pub entries_of : List Block → List Entry
 entries_of blocks = flat_map (λ block. block.entries.items) blocks
+
+-- a list has the entries of another and one more
+abbrev pub IsPut : List Entry → Entry → List Entry → Type 0
+IsPut before n after = (e : Entry) → Contains after e ↔ (Contains before e ⊎ (n ≡ e))
 
 -- the entry has a clause's number and its sketch
 pub record IsEntry (F : List (List ℕ)) (i : ℕ) (e : Entry) : Type 0 where

@@ -1,5 +1,5 @@
 ghost use Rattle.std.specs.Prelude.{◌≡◌, ℕ, ◌+◌, ◌<◌, ◌≤◌, List, [], ◌∷◌, ◌++◌, length, slice_index_or, slice_set, OnOk, OnErr};
-ghost use Rattle.sat_search.specs.New.{entries_of};
+ghost use Rattle.sat_search.specs.New.{entries_of, IsPut};
 
 use crate::block::Block;
 use kv_base::NoMemory;
@@ -13,10 +13,10 @@ pub struct Entry {
     pub sketch: u128,
 }
 
-/// How many entries a block has at most.
-const MOST: usize = 16;
+/// Entries whose sketches have so many bits unset in common belong into one block.
+const MUCH: u32 = 5;
 
-/// For each literal a growing list of clauses. Contracts see the lists.
+/// For each literal a growing list of clauses, in blocks of those that have much in common. Contracts see the lists.
 #[derive(Drop)]
 pub struct Index {
     alloc: Global,
@@ -34,12 +34,33 @@ fn count_each(counts: &mut Vec<u64>, clause: &[u32]) {
     }
 }
 
-// Puts an entry into the last block where that has room, and else into a new one.
+// The block with room whose entries have most in common with one of this sketch. None where that isn't much, and half of
+// the blocks or more are full.
+fn seat(blocks: &[Block], sketch: u128) -> Option<usize> {
+    let mut seat = None;
+    let mut most = 0;
+    let mut open = 0usize;
+    for (at, block) in blocks.iter().enumerate() {
+        let common = block.common(sketch);
+        if block.has_room() && common >= most {
+            seat = Some(at);
+            most = common;
+        }
+        open = open.saturating_add(usize::from(block.has_room()));
+    }
+    if most < MUCH && open <= blocks.len() / 2 {
+        None
+    } else {
+        seat
+    }
+}
+
+// Puts an entry into the block that has most in common with it, or into a new one.
 fn put_into(alloc: Global, blocks: &mut Vec<Block>, entry: Entry) -> Result<(), NoMemory>
-    ensures { OnOk result (entries_of blocks.new.items ≡ entries_of blocks.old.items ++ entry ∷ []) }
+    ensures { OnOk result (IsPut (entries_of blocks.old.items) entry (entries_of blocks.new.items)) }
 {
-    if let Some(block) = blocks.last_mut() {
-        if block.entries.len() < MOST {
+    if let Some(at) = seat(blocks, entry.sketch) {
+        if let Some(block) = blocks.get_mut(at) {
             return block.put(entry);
         }
     }
@@ -88,9 +109,11 @@ impl Index {
         self.lists[lit].as_slice()
     }
 
+    /// Lists an entry under a literal. In which order a list has its entries isn't said.
     pub fn put(&mut self, lit: usize, entry: Entry) -> Result<(), NoMemory>
         requires { lit < length self.old }
-        ensures { OnOk result (self.new ≡ slice_set self.old lit (slice_index_or self.old lit [] ++ entry ∷ [])) }
+        ensures put { OnOk result (IsPut (slice_index_or self.old lit []) entry (slice_index_or self.new lit [])) }
+        ensures others { OnOk result (self.new ≡ slice_set self.old lit (slice_index_or self.new lit [])) }
     {
         put_into(self.alloc, &mut self.lists[lit], entry)
     }

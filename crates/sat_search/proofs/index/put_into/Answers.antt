@@ -1,24 +1,25 @@
-use Rattle.std.proofs.Common.{ℕ, ◌≡◌, ◌+◌, ◌-◌, ◌++◌, ◌∷◌, [], List, length, vec_len, get_or, set, take, ap, sym, ◌∙◌, arith, append_assoc}
-use Rattle.std.proofs.Math.Seq.{set-append_seam}
-use Rattle.std.proofs.lemmas.List.{take_more, take_all, length-take-le}
+use Rattle.std.proofs.Common.{◌≡◌, ◌<◌, ◌++◌, ◌∷◌, [], List, length, ap, refl, subst, sym, ◌∙◌, arith}
+use Rattle.std.specs.declared.vec.Vec.{Vec}
+use Rattle.std.specs.declared.alloc.Global.{Global}
 use Rattle.std.proofs.lemmas.Result.{on_ok_weaker}
 use Rattle.sat_search.specs.declared.block.Block.{Block}
 use Rattle.sat_search.specs.declared.index.Entry.{Entry}
-use Rattle.sat_search.specs.New.{entries_of}
-use Rattle.sat_search.proofs.Blocks.{entries_of-push}
+use Rattle.sat_search.specs.New.{entries_of, IsPut}
+use Rattle.sat_search.proofs.Blocks.{IsPut-block, IsPut-new}
 use Rattle.sat_search.proofs.index.put_into.Goals as goal
+use Rattle.sat_search.proofs.index.put_into.Goals.{in-Some+in_default-get_mut, in_default}
 
-entries_of-last : (blocks : List Block) (i : ℕ) (old new : Block) (n : Entry) → i + 1 ≡ length blocks → old ≡ get_or blocks i old → new.entries.items ≡ old.entries.items ++ n ∷ [] → entries_of (set blocks i new) ≡ entries_of blocks ++ n ∷ []
-entries_of-last blocks i old new n last e f =
-    let front : List Block = take i blocks in
-    let before : blocks ≡ front ++ old ∷ [] = sym (take_all (i + 1) blocks (omega arith)) ∙ take_more blocks i old (omega arith) ∙ ap (λ (x : Block). front ++ x ∷ []) (sym e) in
-    let size : i ≡ length front = sym (length-take-le i blocks (omega arith)) in
-    let after : set blocks i new ≡ front ++ new ∷ [] = ap (λ (x : List Block). set x i new) before ∙ ap (λ (k : ℕ). set (front ++ old ∷ []) k new) size ∙ set-append_seam front old [] new in
-    ap entries_of after ∙ entries_of-push front new ∙ ap (λ (x : List Entry). entries_of front ++ x) f ∙ sym (append_assoc (entries_of front) old.entries.items (n ∷ []))
-    ∙ ap (λ (x : List Entry). x ++ n ∷ []) (sym (entries_of-push front old) ∙ ap entries_of (sym before))
+pub returns-in-Some-get_mut : goal.returns-in-Some-get_mut
+returns-in-Some-get_mut c =
+    let within : c.in-Some.at < length c.args.blocks.now.items = omega (arith, c.in-Some-get_mut.ensures.variant.0 refl, c.args.blocks.now.ok.0) in
+    on_ok_weaker c.put.result (IsPut-block c.args.blocks.now.items c.in-Some.at c.in-Some-get_mut.block.now c.put.new.self c.args.entry within c.in-Some-get_mut.ensures.value) c.put.ensures
 
-pub returns-then-len-lt-MOST : goal.returns-then-len-lt-MOST
-returns-then-len-lt-MOST c =
-    let last : ℕ = vec_len c.args.blocks.now - 1 in
-    let is_last : last + 1 ≡ length c.args.blocks.now.items = omega (arith, c.in-Some.ensures.item.3.0, c.args.blocks.now.ok.0) in
-    on_ok_weaker c.put.result (entries_of-last c.args.blocks.now.items last c.in-Some.block.now c.put.new.self c.args.entry is_last c.in-Some.ensures.value) c.put.ensures
+pub returns : goal.returns
+returns c =
+    let same : c.match-seat.blocks.items ≡ c.args.blocks.now.items = elim c.match-seat.branch [
+      | in-Some+in_default-get_mut w ↦ ap (λ (x : Vec Block Global). x.items) w.blocks-is
+      | in_default w ↦ ap (λ (x : Vec Block Global). x.items) w.blocks-is
+    ] in
+    let one : c.put-2.new.self.entries.items ≡ c.args.entry ∷ [] = c.in_ok-put.ensures ∙ ap (λ (x : List Entry). x ++ c.args.entry ∷ []) c.new-block.ensures in
+    let put : IsPut (entries_of c.match-seat.blocks.items) c.args.entry (entries_of c.push.new.self.items) = subst (λ (x : List Block). IsPut (entries_of c.match-seat.blocks.items) c.args.entry (entries_of x)) (sym c.in_ok-push.ensures.items) (IsPut-new c.match-seat.blocks.items c.put-2.new.self c.args.entry one) in
+    subst (λ (x : List Block). IsPut (entries_of x) c.args.entry (entries_of c.push.new.self.items)) same put

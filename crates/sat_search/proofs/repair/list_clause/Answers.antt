@@ -21,12 +21,12 @@ returns c =
     let num : c.in-Ok.number ≡ length F = grind (arith, common_steps, c.in-Ok.ensures, c.len.ensures) in
     let has : Contains cl l = Contains-get_or cl u 0 in_clause in
     let in_lists : l < length lists = let r = c.requires.range u in_clause in let e = ap length same in omega arith in
-    let after : List (List Entry) = set lists l (get_or lists l [] ++ entry ∷ []) in
-    let ix : IsIndexed (F ++ cl ∷ []) after = IsIndexed-push F lists cl l entry (subst (λ (x : List (List Entry)). IsIndexed F x) (sym same) c.requires.indexed) in_lists has num c.sketch.ensures in
-    let put : c.put.new.self ≡ after = c.in_ok-put.ensures in (
+    let here : List Entry = get_or c.put.new.self l [] in
+    let ix : IsIndexed (F ++ cl ∷ []) (set lists l here) = IsIndexed-push F lists cl l entry here (subst (λ (x : List (List Entry)). IsIndexed F x) (sym same) c.requires.indexed) in_lists has num c.sketch.ensures c.in_ok-put.ensures.put in
+    let put : c.put.new.self ≡ set lists l here = c.in_ok-put.ensures.others in (
       num,
       c.in_ok-push.ensures.ok,
       subst (λ (x : List (List ℕ)). IsIndexed x c.put.new.self) (sym c.in_ok-push.ensures.ok) (subst (λ (x : List (List Entry)). IsIndexed (F ++ cl ∷ []) x) (sym put) ix),
-      ap length put ∙ length-set lists l (get_or lists l [] ++ entry ∷ []) ∙ ap length same,
+      ap length put ∙ length-set lists l here ∙ ap length same,
       omega (arith, ap length c.in_ok-push.ensures.ok, length-append F (cl ∷ []), num),
     )
