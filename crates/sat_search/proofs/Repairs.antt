@@ -1,4 +1,4 @@
-use Rattle.std.proofs.Common.{ℕ, ◌≡◌, ◌≢◌, ◌+◌, ◌-◌, ◌/◌, ◌<◌, ◌≤◌, ◌++◌, inl, inr, List, [], ◌∷◌, length, get_or, take, set, Bool, false, None, Some, Option, MatchOption, refl, sym, ap, subst, ◌∙◌, arith}
+use Rattle.std.proofs.Common.{ℕ, ◌≡◌, ◌≢◌, ◌+◌, ◌-◌, ◌/◌, ◌<◌, ◌≤◌, ◌++◌, inl, inr, List, [], ◌∷◌, length, get_or, take, set, Bool, false, None, Some, Option, MatchOption, sym, ap, subst, ◌∙◌, arith}
 use Rattle.std.specs.List.{Contains}
 use Rattle.std.proofs.lemmas.Bool.{cases_eq, cases_lt, false≢true}
 use Rattle.std.proofs.lemmas.List.{length-append, length-take-le, length_push, get_or-take, get_or_append_left, get_or_push, get_or_default, get_or-set_same, get_or-set_other, take-take}
@@ -18,6 +18,7 @@ use Rattle.sat_search.specs.declared.index.Entry.{Entry}
 use Rattle.sat_search.specs.Sketch.{IsSketch}
 use Rattle.sat_search.specs.New.{IsEntry, IsPut, IsIndexed}
 use Rattle.sat_search.specs.State.{is_choice, IsState}
+use Rattle.sat_search.proofs.Blocks.{IsPut-has, IsPut-keeps}
 use Rattle.sat_search.specs.Choice.{IsLastPlace, IsChoiceAt, NoChoice}
 use Rattle.sat_search.specs.Repair.{IsBack, IsSpot, IsJump}
 use Rattle.sat_search.proofs.States.{Conflict-from, no_free, false_in, IsState-cut, IsSite-from}
@@ -98,14 +99,14 @@ IsIndexed-push F lists c l n here ix lt has e sk put i h = elim (cases_lt i (len
       } in (
         l,
         subst (λ (x : List ℕ). Contains x l) clause has,
-        (n, subst (λ (x : List Entry). Contains x n) (sym (get_or-set_same lists l here [] lt)) ((put n).1 (inr refl)), is),
+        (n, subst (λ (x : List Entry). Contains x n) (sym (get_or-set_same lists l here [] lt)) (IsPut-has (get_or lists l []) here n put), is),
       )
 ]
   where
     kept : (m : ℕ) (i : Entry) → Contains (get_or lists m []) i → Contains (get_or (set lists l here) m []) i
     kept m i w = elim (cases_eq m l) [
       | inl e ↦ subst (λ (x : ℕ). Contains (get_or (set lists l here) x []) i) (sym e)
-          (subst (λ (x : List Entry). Contains x i) (sym (get_or-set_same lists l here [] lt)) ((put i).1 (inl (subst (λ (x : ℕ). Contains (get_or lists x []) i) e w))))
+          (subst (λ (x : List Entry). Contains x i) (sym (get_or-set_same lists l here [] lt)) (IsPut-keeps (get_or lists l []) here n i put (subst (λ (x : ℕ). Contains (get_or lists x []) i) e w)))
       | inr ne ↦ subst (λ (x : List Entry). Contains x i) (sym (get_or-set_other lists l m here [] ne)) w
     ]
 

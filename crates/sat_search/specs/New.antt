@@ -1,5 +1,5 @@
-use Rattle.std.specs.Prelude.{ℕ, ◌≡◌, ◌<◌, ◌↔◌, ◌⊎◌, List, [], length, slice_index_or, Bool, Option, None, Some}
-use Rattle.std.specs.List.{Contains, flat_map}
+use Rattle.std.specs.Prelude.{ℕ, ◌≡◌, ◌<◌, List, [], length, slice_index_or, Bool, Option, None, Some}
+use Rattle.std.specs.List.{Contains, flat_map, insert}
 use Rattle.sat_engine.specs.Trail.{IsSet}
 use Rattle.sat_search.specs.Sketch.{IsSketch}
 use Rattle.sat_search.specs.declared.block.Block.{Block}
@@ -10,9 +10,9 @@ use Rattle.kv_clause.specs.Propagation.{clause_at, Includes}
 abbrev pub entries_of : List Block → List Entry
 entries_of blocks = flat_map (λ block. block.entries.items) blocks
 
--- a list has the entries of another and one more
+-- a list is another after an entry was inserted at some place: what there was keeps its order
 abbrev pub IsPut : List Entry → Entry → List Entry → Type 0
-IsPut before n after = (e : Entry) → Contains after e ↔ (Contains before e ⊎ (n ≡ e))
+IsPut before n after = (place : ℕ) × (after ≡ insert before place n)
 
 -- the entry has a clause's number and its sketch
 pub record IsEntry (F : List (List ℕ)) (i : ℕ) (e : Entry) : Type 0 where

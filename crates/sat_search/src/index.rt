@@ -109,7 +109,7 @@ impl Index {
         self.lists[lit].as_slice()
     }
 
-    /// Lists an entry under a literal. In which order a list has its entries isn't said.
+    /// Lists an entry under a literal, once. At which place of the list isn't said.
     pub fn put(&mut self, lit: usize, entry: Entry) -> Result<(), NoMemory>
         requires { lit < length self.old }
         ensures put { OnOk result (IsPut (slice_index_or self.old lit []) entry (slice_index_or self.new lit [])) }

@@ -73,17 +73,30 @@ fn learns(checker: &mut Checker, log: &Log) -> Result<bool, NoMemory> {
     Ok(true)
 }
 
+fn is_refuted(alloc: Global, kept: &mut Kept, numbers: &[i8]) -> Result<bool, NoMemory> {
+    let answer = asked(alloc, kept, numbers, 0)?;
+    Ok(matches!(&answer, KeptAnswer::Unsat))
+}
+
+// Whether a checker of the clauses refutes the literals once it has learnt the log, and not before.
+fn is_confirmed(
+    alloc: Global,
+    clauses: &Clauses,
+    log: &Log,
+    numbers: &[i8],
+) -> Result<bool, NoMemory> {
+    let asked = lits(alloc, numbers)?;
+    let mut checker = checker_of(alloc, clauses)?;
+    let early = checker.refutes(&asked)?;
+    Ok(!early && learns(&mut checker, log)? && checker.refutes(&asked)?)
+}
+
 #[test]
 fn a_checker_confirms_what_is_refuted(rt: HostRuntime) -> Result<(), Fail> {
     let clauses = pigeons(rt.alloc())?.clauses;
     let mut kept = Kept::new(rt.alloc());
     add_all(&mut kept, &clauses)?;
-    let answer = asked(rt.alloc(), &mut kept, &[1], 0)?;
-    assert!(rt; matches!(&answer, KeptAnswer::Unsat));
-    let mut checker = checker_of(rt.alloc(), &clauses)?;
-    let first = lits(rt.alloc(), &[1])?;
-    assert!(rt; !checker.refutes(&first)?);
-    assert!(rt; learns(&mut checker, kept.log())?);
-    assert!(rt; checker.refutes(&first)?);
+    assert!(rt; is_refuted(rt.alloc(), &mut kept, &[1])?);
+    assert!(rt; is_confirmed(rt.alloc(), &clauses, kept.log(), &[1])?);
     Ok(())
 }
