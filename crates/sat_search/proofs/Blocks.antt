@@ -32,10 +32,10 @@ IsPut-block blocks i old new n lt is more =
     let same : set blocks i old ≡ blocks = ap (set blocks i) is ∙ set-get_or blocks i old in
     let was : (before ++ here) ++ rest ≡ entries_of blocks = append_assoc before here rest ∙ sym (entries_of-set blocks i old lt) ∙ ap entries_of same in
     let now : entries_of (set blocks i new) ≡ (before ++ here) ++ n ∷ rest =
-        entries_of-set blocks i new lt
-        ∙ ap (λ (x : List Entry). before ++ (x ++ rest)) more
-        ∙ ap (λ (x : List Entry). before ++ x) (append_assoc here (n ∷ []) rest)
-        ∙ sym (append_assoc before here (n ∷ rest)) in
+    entries_of-set blocks i new lt
+    ∙ ap (λ (x : List Entry). before ++ (x ++ rest)) more
+    ∙ ap (λ (x : List Entry). before ++ x) (append_assoc here (n ∷ []) rest)
+    ∙ sym (append_assoc before here (n ∷ rest)) in
     (length (before ++ here), now ∙ sym (insert-between (before ++ here) rest n) ∙ ap (λ (x : List Entry). insert x (length (before ++ here)) n) was)
 
 pub IsPut-new : (blocks : List Block) (new : Block) (n : Entry) → new.entries.items ≡ n ∷ [] → IsPut (entries_of blocks) n (entries_of (blocks ++ new ∷ []))
