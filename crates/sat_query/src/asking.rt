@@ -44,6 +44,30 @@ fn ended(alloc: Global, log: &Log) -> Result<Log, NoMemory>
     Ok(made)
 }
 
+// Searches with a solver that has learnt nothing and has no more variables than its clauses.
+fn search_with<P: Poll>(
+    alloc: Global,
+    solver: &mut Solver,
+    budget: u32,
+    poll: &mut P,
+) -> Result<Asked, NoMemory>
+    requires log { solver.old.log ≡ [] }
+    requires vars { (n : ℕ) → ClausesAreBelow n solver.old.clauses → solver.old.vars ≤ n }
+    requires poll { P.ready poll.old }
+    ensures answer { IfOk result (λ asked. (n : ℕ) → AskedSays n solver.old.clauses budget asked) }
+    ensures poll { P.ready poll.new }
+    ensures held { P.held poll.new ≡ P.held poll.old }
+    ensures asks { IfOk result (λ asked. AskedOften (P.asks poll.old) (P.asks poll.new) asked) }
+    ensures yeses { IfOk result (λ asked. YesSays (P.yeses poll.old) (P.yeses poll.new) asked) }
+{
+    match solver.solve(&Sequence::new(alloc), budget, poll)? {
+        Answer::Sat(found) => Ok(Asked::Sat(found)),
+        Answer::Unsat => Ok(Asked::Unsat(ended(alloc, solver.log())?)),
+        Answer::Spent => Ok(Asked::Spent(solver.log().copy(alloc)?)),
+        Answer::Stopped => Ok(Asked::Stopped),
+    }
+}
+
 // Searches for the answer.
 fn search<P: Poll>(alloc: Global, cnf: &Cnf, budget: u32, poll: &mut P) -> Result<Asked, NoMemory>
     requires { P.ready poll.old }
@@ -54,12 +78,7 @@ fn search<P: Poll>(alloc: Global, cnf: &Cnf, budget: u32, poll: &mut P) -> Resul
     ensures yeses { IfOk result (λ asked. YesSays (P.yeses poll.old) (P.yeses poll.new) asked) }
 {
     let mut solver = begin(alloc, &cnf.clauses)?;
-    match solver.solve(&Sequence::new(alloc), budget, poll)? {
-        Answer::Sat(found) => Ok(Asked::Sat(found)),
-        Answer::Unsat => Ok(Asked::Unsat(ended(alloc, solver.log())?)),
-        Answer::Spent => Ok(Asked::Spent(solver.log().copy(alloc)?)),
-        Answer::Stopped => Ok(Asked::Stopped),
-    }
+    search_with(alloc, &mut solver, budget, poll)
 }
 
 // Whether the assignment has a value for each variable of the clause, and some literal of it is true.

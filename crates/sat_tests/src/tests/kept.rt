@@ -24,44 +24,62 @@ fn asked(
     kept.ask(&lits(alloc, numbers)?, budget, &mut NeverPoll::new())
 }
 
+fn is_refuted(alloc: Global, kept: &mut Kept, numbers: &[i8]) -> Result<bool, NoMemory> {
+    let answer = asked(alloc, kept, numbers, 0)?;
+    Ok(matches!(&answer, KeptAnswer::Unsat))
+}
+
+fn spends_one(alloc: Global, kept: &mut Kept) -> Result<bool, NoMemory> {
+    let answer = asked(alloc, kept, &[], 1)?;
+    Ok(matches!(&answer, KeptAnswer::Spent(log) if log.len() == 1))
+}
+
+// Whether the clauses are met together with these literals, and the variable of number 2 is true then.
+fn makes_2_true(alloc: Global, kept: &mut Kept, numbers: &[i8]) -> Result<bool, NoMemory> {
+    let answer = asked(alloc, kept, numbers, 0)?;
+    Ok(matches!(&answer, KeptAnswer::Sat(found) if found.get(1) == Some(&true)))
+}
+
+fn spends_and_goes_on(alloc: Global, kept: &mut Kept) -> Result<bool, NoMemory> {
+    add_all(kept, &pigeons(alloc)?.clauses)?;
+    Ok(spends_one(alloc, kept)? && is_refuted(alloc, kept, &[])?)
+}
+
 #[test]
 fn a_spent_budget_is_no_end(rt: HostRuntime) -> Result<(), Fail> {
-    let mut kept = Kept::new(rt.alloc());
-    add_all(&mut kept, &pigeons(rt.alloc())?.clauses)?;
-    let first = asked(rt.alloc(), &mut kept, &[], 1)?;
-    assert!(rt; matches!(&first, KeptAnswer::Spent(log) if log.len() == 1));
-    let second = asked(rt.alloc(), &mut kept, &[], 0)?;
-    assert!(rt; matches!(&second, KeptAnswer::Unsat));
+    let goes_on = spends_and_goes_on(rt.alloc(), &mut Kept::new(rt.alloc()))?;
+    assert!(rt; goes_on);
     Ok(())
+}
+
+fn keeps_apart(alloc: Global, kept: &mut Kept) -> Result<bool, NoMemory> {
+    kept.add(&lits(alloc, &[-1, 2])?)?;
+    Ok(is_refuted(alloc, kept, &[1, -2])? && makes_2_true(alloc, kept, &[1])?)
 }
 
 #[test]
 fn questions_are_apart(rt: HostRuntime) -> Result<(), Fail> {
-    let mut kept = Kept::new(rt.alloc());
-    kept.add(&lits(rt.alloc(), &[-1, 2])?)?;
-    let both = asked(rt.alloc(), &mut kept, &[1, -2], 0)?;
-    assert!(rt; matches!(&both, KeptAnswer::Unsat));
-    let one = asked(rt.alloc(), &mut kept, &[1], 0)?;
-    assert!(rt; matches!(&one, KeptAnswer::Sat(found) if found.get(1) == Some(&true)));
+    let are_apart = keeps_apart(rt.alloc(), &mut Kept::new(rt.alloc()))?;
+    assert!(rt; are_apart);
     Ok(())
+}
+
+fn refutes(alloc: Global, checker: &mut Checker, numbers: &[i8]) -> Result<bool, NoMemory> {
+    checker.refutes(&lits(alloc, numbers)?)
+}
+
+fn learns_2(alloc: Global, checker: &mut Checker) -> Result<bool, NoMemory> {
+    checker.add(&lits(alloc, &[-1, 2])?)?;
+    checker.add(&lits(alloc, &[1])?)?;
+    let is_learnt = checker.learn(&lits(alloc, &[2])?)?;
+    Ok(is_learnt && refutes(alloc, checker, &[-2])?)
 }
 
 #[test]
 fn a_checker_learns(rt: HostRuntime) -> Result<(), Fail> {
-    let mut checker = Checker::new(rt.alloc());
-    checker.add(&lits(rt.alloc(), &[-1, 2])?)?;
-    checker.add(&lits(rt.alloc(), &[1])?)?;
-    assert!(rt; checker.learn(&lits(rt.alloc(), &[2])?)?);
-    assert!(rt; checker.refutes(&lits(rt.alloc(), &[-2])?)?);
+    let is_learnt = learns_2(rt.alloc(), &mut Checker::new(rt.alloc()))?;
+    assert!(rt; is_learnt);
     Ok(())
-}
-
-fn checker_of(alloc: Global, clauses: &Clauses) -> Result<Checker, NoMemory> {
-    let mut checker = Checker::new(alloc);
-    for clause in clauses.as_slice() {
-        checker.add(clause)?;
-    }
-    Ok(checker)
 }
 
 fn learns(checker: &mut Checker, log: &Log) -> Result<bool, NoMemory> {
@@ -73,30 +91,32 @@ fn learns(checker: &mut Checker, log: &Log) -> Result<bool, NoMemory> {
     Ok(true)
 }
 
-fn is_refuted(alloc: Global, kept: &mut Kept, numbers: &[i8]) -> Result<bool, NoMemory> {
-    let answer = asked(alloc, kept, numbers, 0)?;
-    Ok(matches!(&answer, KeptAnswer::Unsat))
-}
-
-// Whether a checker of the clauses refutes the literals once it has learnt the log, and not before.
-fn is_confirmed(
+// Whether the checker, once it has the clauses, refutes the literals where it has learnt the log, and not before.
+fn confirms(
     alloc: Global,
+    checker: &mut Checker,
     clauses: &Clauses,
     log: &Log,
     numbers: &[i8],
 ) -> Result<bool, NoMemory> {
-    let asked = lits(alloc, numbers)?;
-    let mut checker = checker_of(alloc, clauses)?;
-    let early = checker.refutes(&asked)?;
-    Ok(!early && learns(&mut checker, log)? && checker.refutes(&asked)?)
+    for clause in clauses.as_slice() {
+        checker.add(clause)?;
+    }
+    let is_early = refutes(alloc, checker, numbers)?;
+    Ok(!is_early && learns(checker, log)? && refutes(alloc, checker, numbers)?)
+}
+
+fn is_confirmed(alloc: Global, kept: &mut Kept) -> Result<bool, NoMemory> {
+    let clauses = pigeons(alloc)?.clauses;
+    add_all(kept, &clauses)?;
+    let is_refuted = is_refuted(alloc, kept, &[1])?;
+    let is_confirmed = confirms(alloc, &mut Checker::new(alloc), &clauses, kept.log(), &[1])?;
+    Ok(is_refuted && is_confirmed)
 }
 
 #[test]
 fn a_checker_confirms_what_is_refuted(rt: HostRuntime) -> Result<(), Fail> {
-    let clauses = pigeons(rt.alloc())?.clauses;
-    let mut kept = Kept::new(rt.alloc());
-    add_all(&mut kept, &clauses)?;
-    assert!(rt; is_refuted(rt.alloc(), &mut kept, &[1])?);
-    assert!(rt; is_confirmed(rt.alloc(), &clauses, kept.log(), &[1])?);
+    let is_confirmed = is_confirmed(rt.alloc(), &mut Kept::new(rt.alloc()))?;
+    assert!(rt; is_confirmed);
     Ok(())
 }

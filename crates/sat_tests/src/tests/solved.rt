@@ -5,12 +5,11 @@ use std::alloc::Global;
 use std::process::Abort;
 use std::test::Fail;
 
-fn solver_of(alloc: Global, clauses: &[&[i8]]) -> Result<Solver, NoMemory> {
-    let mut solver = Solver::new(alloc);
+fn add_all(alloc: Global, solver: &mut Solver, clauses: &[&[i8]]) -> Result<(), NoMemory> {
     for clause in clauses {
         solver.add(&lits(alloc, clause)?)?;
     }
-    Ok(solver)
+    Ok(())
 }
 
 fn is_sat(alloc: Global, solver: &mut Solver, assumed: &[i8]) -> Result<bool, NoMemory> {
@@ -19,26 +18,39 @@ fn is_sat(alloc: Global, solver: &mut Solver, assumed: &[i8]) -> Result<bool, No
     Ok(matches!(answer, Answer::Sat(_)))
 }
 
+fn leaves_them_behind(alloc: Global, solver: &mut Solver) -> Result<bool, NoMemory> {
+    add_all(alloc, solver, &[&[1, 2]])?;
+    let is_refuted = !is_sat(alloc, solver, &[-1, -2])?;
+    Ok(is_refuted && is_sat(alloc, solver, &[])? && solver.log().is_empty())
+}
+
 #[test]
 fn assumed_literals_are_left_behind(rt: HostRuntime) -> Result<(), Fail> {
-    let mut solver = solver_of(rt.alloc(), &[&[1, 2]])?;
-    assert!(rt; !is_sat(rt.alloc(), &mut solver, &[-1, -2])?);
-    assert!(rt; is_sat(rt.alloc(), &mut solver, &[])?);
-    assert!(rt; solver.log().is_empty());
+    let are_left = leaves_them_behind(rt.alloc(), &mut Solver::new(rt.alloc()))?;
+    assert!(rt; are_left);
     Ok(())
+}
+
+fn takes_them(alloc: Global, solver: &mut Solver) -> Result<bool, NoMemory> {
+    add_all(alloc, solver, &[&[1, -1], &[2, 2], &[-2, 3, 3, 1]])?;
+    Ok(is_sat(alloc, solver, &[-1])? && !is_sat(alloc, solver, &[-1, -3])?)
 }
 
 #[test]
 fn literals_twice_and_complements(rt: HostRuntime) -> Result<(), Fail> {
-    let mut solver = solver_of(rt.alloc(), &[&[1, -1], &[2, 2], &[-2, 3, 3, 1]])?;
-    assert!(rt; is_sat(rt.alloc(), &mut solver, &[-1])?);
-    assert!(rt; !is_sat(rt.alloc(), &mut solver, &[-1, -3])?);
+    let are_taken = takes_them(rt.alloc(), &mut Solver::new(rt.alloc()))?;
+    assert!(rt; are_taken);
     Ok(())
+}
+
+fn refutes_the_empty(alloc: Global, solver: &mut Solver) -> Result<bool, NoMemory> {
+    add_all(alloc, solver, &[&[], &[4]])?;
+    Ok(!is_sat(alloc, solver, &[])?)
 }
 
 #[test]
 fn the_empty_clause(rt: HostRuntime) -> Result<(), Fail> {
-    let mut solver = solver_of(rt.alloc(), &[&[], &[4]])?;
-    assert!(rt; !is_sat(rt.alloc(), &mut solver, &[])?);
+    let is_refuted = refutes_the_empty(rt.alloc(), &mut Solver::new(rt.alloc()))?;
+    assert!(rt; is_refuted);
     Ok(())
 }
