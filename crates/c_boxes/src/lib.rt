@@ -1,4 +1,4 @@
-//! Boxes and lists for the nodes of a tree, made in steps of any type: what is given up for want of memory is let go here,
+//! Boxes and lists for the nodes of a tree, made in steps of any type: what is given up where memory runs out is let go here,
 //! and no rule of the grammar has to say how a tree is.
 #![tactic(auto)]
 

@@ -1,4 +1,3 @@
-pub mod Faults
 pub mod Commas
-pub mod Initialisers
 pub mod DeclarationEnds
+pub mod Initialisers

@@ -1,30 +1,30 @@
 -- Declarators, part by part.
 use Rattle.std.proofs.Common.{◌≡◌, ℕ, ◌+◌, ◌-◌, ◌<◌, ◌≤◌, false, List, [], Option, None, Result, refl, sym, subst, ◌∙◌, ap, arith}
-use Rattle.c_model.specs.declared.token.TokenKind.{TokenKind}
+use Rattle.c_tokens.specs.declared.token.TokenKind.{TokenKind}
 use Rattle.c_tree.specs.declared.expression.Expression.{Expression}
 use Rattle.c_tree.specs.declared.expression.Declarator.{Declarator}
 use Rattle.c_tree.specs.declared.expression.Declarator.TheVariants as declarator_node
 use Rattle.c_tree.specs.declared.scope.Entry.{Entry}
 use Rattle.c_tree.specs.Places.{Place, next, enter, leave, first_of}
 use Rattle.c_tree.specs.Spells.{nearest}
-use Rattle.c_marks.specs.declared.fault.Fault.{Fault}
-use Rattle.c_marks.specs.declared.marks.Mark.TheVariants as mark
-use Rattle.c_marks.specs.declared.parts.Titled as parts_titled
-use Rattle.c_marks.specs.declared.parts.Perhaps as parts_perhaps
-use Rattle.c_marks.specs.Bare.{bare}
-use Rattle.c_type_names.specs.TypeNames.{closed_size}
-use Rattle.c_marks.specs.Reads.{ReadsAs, titled_of, perhaps_of, name_read}
+use Rattle.c_cursor.specs.declared.fault.Fault.{Fault}
+use Rattle.c_cursor.specs.declared.marks.Mark.TheVariants as mark
+use Rattle.c_cursor.specs.declared.parts.Titled as parts_titled
+use Rattle.c_cursor.specs.declared.parts.Perhaps as parts_perhaps
+use Rattle.c_cursor.specs.Bare.{bare}
+use Rattle.c_declarators.specs.TypeNames.{closed_size}
+use Rattle.c_cursor.specs.Reads.{ReadsAs, titled_of, perhaps_of, name_read}
 use Rattle.c_declarators.specs.Declarators.{alone, parameters_at, array_suffix, function_parameters, function_suffix, titled_at, inner_declarator, declared_name, perhaps_at}
 use Rattle.c_grammar.specs.Marks as spec
 use Rattle.c_grammar.specs.Marks.{Mark, mark_of, mark_at}
 use Rattle.c_grammar.specs.Reader.{Outcome, Gives, Refuses, and_then, Reader}
 use Rattle.c_grammar.specs.ReadTypes.{Titled, Titles, Takes, Taken, Suffixes, Without, where_closes, where_square_closes, array_by, with_parameters, function_by, suffixes_by, suffixes}
 use Rattle.c_grammar.specs.Readers.{read, declarator}
-use Rattle.c_declarators.proofs.Plain.{told}
-use Rattle.c_marks.proofs.Lists.{one_further}
-use Rattle.c_marks.proofs.Skipped.{closes_both, square_closes_both}
-use Rattle.c_marks.proofs.Single.{name_of, name_marked}
-use Rattle.c_marks.proofs.Lists.{then_both}
+use Rattle.c_cursor.proofs.Plain.{told}
+use Rattle.c_cursor.proofs.Lists.{one_further}
+use Rattle.c_cursor.proofs.Skipped.{closes_both, square_closes_both}
+use Rattle.c_cursor.proofs.Single.{name_of, name_marked}
+use Rattle.c_cursor.proofs.Lists.{then_both}
 
 -- ---- arrays
 
@@ -121,7 +121,7 @@ function_some kinds n name parameters inner at p q r s a e h k =
 
 -- ---- what follows a direct declarator
 
--- so many suffixes more
+-- this many more suffixes
 abbrev pub further_suffixes : List TokenKind → ℕ → ℕ → Titled → Place → Outcome Titled
 further_suffixes kinds n m d p = suffixes kinds (read kinds n) (parameters_at kinds n) m d p
 

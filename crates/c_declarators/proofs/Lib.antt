@@ -1,3 +1,4 @@
-pub mod Plain
-pub mod ParameterSteps
+pub mod Arrays
 pub mod DeclaratorSteps
+pub mod ParameterSteps
+pub mod Unnamed

@@ -1,25 +1,25 @@
 -- Parameters, one by one.
 use Rattle.std.proofs.Common.{◌≡◌, ℕ, ◌+◌, ◌-◌, ◌<◌, ◌≤◌, true, false, List, [], ◌∷◌, ◌++◌, refl, sym, ◌∙◌, ap, append_assoc, arith}
-use Rattle.c_model.specs.declared.token.TokenKind.{TokenKind}
+use Rattle.c_tokens.specs.declared.token.TokenKind.{TokenKind}
 use Rattle.c_tree.specs.declared.expression.Parameter.{Parameter}
 use Rattle.c_tree.specs.Places.{Place, next}
-use Rattle.c_marks.specs.declared.marks.Mark.TheVariants as mark
-use Rattle.c_marks.specs.Bare.{bare}
+use Rattle.c_cursor.specs.declared.marks.Mark.TheVariants as mark
+use Rattle.c_cursor.specs.Bare.{bare}
 use Rattle.c_declarators.specs.Declarators.{parameter_at}
 use Rattle.c_grammar.specs.Marks as spec
 use Rattle.c_grammar.specs.Marks.{Mark, mark_at}
 use Rattle.c_grammar.specs.Reader.{Outcome, Gives, Refuses, and_then}
 use Rattle.c_grammar.specs.ReadTypes.{Takes, Taken, attributes, parameter, first_taken, parameters_comma, parameters_after, parameters}
 use Rattle.c_grammar.specs.Readers.{specifiers, perhaps}
-use Rattle.c_declarators.proofs.Plain.{told}
-use Rattle.c_marks.proofs.Lists.{one_further}
+use Rattle.c_cursor.proofs.Plain.{told}
+use Rattle.c_cursor.proofs.Lists.{one_further}
 
 -- what parameters are with these before them
 abbrev pub taken_after : List Parameter → Outcome Takes → Outcome Takes
 taken_after found (Gives (Taken list variadic) q) = Gives (Taken (found ++ list) variadic) q
 taken_after found Refuses = Refuses
 
--- so many parameters more
+-- this many more parameters
 abbrev pub further_parameters : List TokenKind → ℕ → ℕ → Place → Outcome Takes
 further_parameters kinds d n p = parameters kinds (parameter (attributes kinds d) (specifiers kinds d) (perhaps kinds d)) n p
 

@@ -1,6 +1,6 @@
 -- The parts of a declarator and of a parameter (6.7.6), as the functions that read them divide them.
 use Rattle.std.specs.Prelude.{ℕ, List, [], None}
-use Rattle.c_model.specs.declared.token.TokenKind.{TokenKind}
+use Rattle.c_tokens.specs.declared.token.TokenKind.{TokenKind}
 use Rattle.c_tree.specs.declared.expression.Declarator.TheVariants as declarator_node
 use Rattle.c_tree.specs.declared.expression.Parameter.{Parameter}
 use Rattle.c_tree.specs.Places.{Place, next, enter}
@@ -14,7 +14,7 @@ use Rattle.c_grammar.specs.Readers.{read, specifiers, perhaps, declarator}
 abbrev pub parameters_of : Parameters → Takes
 parameters_of p = Taken p.list p.variadic
 
--- nothing goes on behind it
+-- nothing goes on after it
 abbrev pub alone : Suffixes
 alone d q = Gives d q
 
@@ -24,15 +24,15 @@ parameter_at kinds n p = parameter (attributes kinds n) (specifiers kinds n) (pe
 abbrev pub parameters_at : List TokenKind → ℕ → Place → Outcome Takes
 parameters_at kinds n p = parameters kinds (parameter (attributes kinds n) (specifiers kinds n) (perhaps kinds n)) n p
 
--- `[]` or `[size]` behind a declarator, from the `[` on (6.7.6.2)
+-- `[]` or `[size]` after a declarator, from the `[` on (6.7.6.2)
 abbrev pub array_suffix : List TokenKind → ℕ → Titled → Place → Outcome Titled
 array_suffix kinds n d p = array_by kinds (read kinds n) alone d p (mark_at kinds (next p))
 
--- behind the `(` of a function declarator, which stands at this number, where there are parameters (6.7.6.3)
+-- after the `(` of a function declarator, which stands at this number, where there are parameters (6.7.6.3)
 abbrev pub function_parameters : List TokenKind → ℕ → Titled → ℕ → Place → Outcome Titled
 function_parameters kinds n d at p = and_then (parameters_at kinds n (enter p)) (with_parameters kinds alone d (record { at = at; blocks = [] }))
 
--- `()` or `(parameters)` behind a declarator, from the `(` on
+-- `()` or `(parameters)` after a declarator, from the `(` on
 abbrev pub function_suffix : List TokenKind → ℕ → Titled → Place → Outcome Titled
 function_suffix kinds n d p = function_by kinds (parameters_at kinds n) alone d p (mark_at kinds (next p))
 

@@ -1,1 +1,2 @@
 pub mod Declarators
+pub mod TypeNames

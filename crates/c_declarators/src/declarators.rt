@@ -7,20 +7,19 @@ ghost use Rattle.c_grammar.specs.Marks as sign;
 ghost use Rattle.c_grammar.specs.Marks.{mark_at};
 ghost use Rattle.c_grammar.specs.ReadTypes as spec;
 ghost use Rattle.c_grammar.specs.Readers as readers;
-ghost use Rattle.c_marks.specs.Reads.{Reads, ReadsAs, specified_of, titled_of, perhaps_of};
-ghost use Rattle.c_marks.specs.Parts.{ReadsExpressions, ReadsPartAs};
+ghost use Rattle.c_cursor.specs.Reads.{Reads, ReadsAs, specified_of, titled_of, perhaps_of};
+ghost use Rattle.c_cursor.specs.Parts.{ReadsExpressions, ReadsPartAs};
 ghost use Rattle.c_declarators.specs.Declarators.{parameters_of, parameter_at, parameters_at, array_suffix, function_parameters, function_suffix, suffixes_at, titled_at, inner_declarator, declared_name, perhaps_at};
 
 use crate::shapes;
+use crate::sizes::closed_size;
 use c_boxes::keeping;
-use c_marks::{
-    Fault, Mark, Perhaps, Specified, Titled, attributes, mark_at, may_qualify_parameter, name,
-    qualifiers, refuse, take,
+use c_cursor::{
+    Cursor, Fault, Mark, Perhaps, Specified, Titled, attributes, mark_at, may_qualify_parameter,
+    name, qualifiers, refuse, take,
 };
-use c_model::Token;
-use c_scopes::Cursor;
+use c_tokens::Token;
 use c_tree::{Declarator, Expression, Parameter, Qualifier, Specifier};
-use c_type_names::closed_size;
 use kv_base::{Copied, Sequence, Stack};
 use sqlite_items::Items;
 use std::alloc::Global;
@@ -65,11 +64,11 @@ pub struct Declarators<'t, R, S, P> {
     pub tokens: &'t [Token],
     /// How many steps may still be taken.
     pub depth: usize,
-    /// Reads an expression of a level or above in so many steps.
+    /// Reads an expression of a level or above in at most a given number of steps.
     pub read: R,
-    /// Reads specifiers in so many steps.
+    /// Reads specifiers in at most a given number of steps.
     pub specifiers: S,
-    /// Reads a declarator, or what stands for one in a parameter, in so many steps.
+    /// Reads a declarator, or what stands for one in a parameter, in at most a given number of steps.
     pub perhaps: P,
 }
 
@@ -133,7 +132,7 @@ impl<
     S,
     P,
 > Declarators<'t, R, S, P> {
-    /// `[]` or `[size]` behind a declarator (6.7.6.2), from the `[` on.
+    /// `[]` or `[size]` after a declarator (6.7.6.2), from the `[` on.
     #[tactic(auto, using(crate::proofs::DeclaratorSteps::array_open, crate::proofs::DeclaratorSteps::array_refused))]
     fn array_suffix(&self, titled: Titled, place: &mut Cursor) -> Result<Titled, Fault>
         requires expressions { ReadsExpressions self.now.depth (R.pre self.now.read) (R.post self.now.read) }
@@ -166,7 +165,7 @@ impl<'t, R, S, P: Fn(Global, &[Token], usize, &mut Cursor) -> Result<Perhaps, Fa
         (self.perhaps)(self.alloc, self.tokens, self.depth, place)
     }
 
-    /// A declarator with a name, and what has no meaning behind it.
+    /// A declarator with a name, and what has no meaning after it.
     pub fn named_declarator(&self, place: &mut Cursor) -> Result<Titled, Fault>
         requires declares { ReadsPartAs perhaps_of readers.perhaps self.now.depth (P.pre self.now.perhaps) (P.post self.now.perhaps) }
         ensures { ReadsAs titled_of (readers.declarator (kinds_of self.now.tokens.now) self.now.depth place.old) result place.new }
@@ -182,7 +181,7 @@ impl<'t, R, S, P: Fn(Global, &[Token], usize, &mut Cursor) -> Result<Perhaps, Fa
     }
 
     /// A declarator with a name in round brackets, from the `(` on.
-    #[tactic(auto, using(c_marks::proofs::Skipped::closes_taken, c_marks::proofs::Skipped::closes_missing))]
+    #[tactic(auto, using(c_cursor::proofs::Skipped::closes_taken, c_cursor::proofs::Skipped::closes_missing))]
     fn inner_declarator(&self, place: &mut Cursor) -> Result<Titled, Fault>
         requires declares { ReadsPartAs perhaps_of readers.perhaps self.now.depth (P.pre self.now.perhaps) (P.post self.now.perhaps) }
         requires here { place.old.at < usize.MAX }
@@ -240,7 +239,7 @@ impl<
         self.parameter_after(specified.list, perhaps, place)
     }
 
-    /// Parameters, up to the `)` behind them.
+    /// Parameters, up to the `)` after them.
     #[tactic(auto, using(crate::proofs::ParameterSteps::parameters_refused, crate::proofs::ParameterSteps::parameters_none, crate::proofs::ParameterSteps::parameters_next))]
     fn parameters(&self, place: &mut Cursor) -> Result<Parameters, Fault>
         requires specifies { ReadsPartAs specified_of readers.specifiers self.now.depth (S.pre self.now.specifiers) (S.post self.now.specifiers) }
@@ -269,9 +268,9 @@ impl<
         Err(refuse(place))
     }
 
-    /// `parameters)` behind the `(` of a function declarator, which stands at `at`. The parameters are a block of
+    /// `parameters)` after the `(` of a function declarator, which stands at `at`. The parameters are a block of
     /// their own.
-    #[tactic(auto, using(c_marks::proofs::Skipped::closes_taken, c_marks::proofs::Skipped::closes_missing))]
+    #[tactic(auto, using(c_cursor::proofs::Skipped::closes_taken, c_cursor::proofs::Skipped::closes_missing))]
     fn function_parameters(
         &self,
         titled: Titled,
@@ -289,7 +288,7 @@ impl<
         Ok(shapes::function(self.alloc, titled, taken, place.leave(), at)?)
     }
 
-    /// `()` or `(parameters)` behind a declarator (6.7.6.3), from the `(` on.
+    /// `()` or `(parameters)` after a declarator (6.7.6.3), from the `(` on.
     #[tactic(auto, using(crate::proofs::DeclaratorSteps::function_empty))]
     fn function_suffix(&self, titled: Titled, place: &mut Cursor) -> Result<Titled, Fault>
         requires specifies { ReadsPartAs specified_of readers.specifiers self.now.depth (S.pre self.now.specifiers) (S.post self.now.specifiers) }
@@ -317,6 +316,27 @@ impl<
     S: Fn(Global, &[Token], usize, &mut Cursor) -> Result<Specified, Fault>,
     P: Fn(Global, &[Token], usize, &mut Cursor) -> Result<Perhaps, Fault>,
 > Declarators<'t, R, S, P> {
+    /// `[]` or `[size]`, as one node more.
+    fn grown_array(&self, titled: Titled, place: &mut Cursor) -> Result<Titled, Fault>
+        requires expressions { ReadsExpressions self.now.depth (R.pre self.now.read) (R.post self.now.read) }
+        requires here { place.old.at < usize.MAX }
+        ensures { ReadsAs titled_of (array_suffix (kinds_of self.now.tokens.now) self.now.depth (titled_of titled) place.old) result place.new }
+    {
+        let whole = self.array_suffix(titled, place)?;
+        Ok(place.grow(whole)?)
+    }
+
+    /// `()` or `(parameters)`, as one node more.
+    fn grown_function(&self, titled: Titled, place: &mut Cursor) -> Result<Titled, Fault>
+        requires specifies { ReadsPartAs specified_of readers.specifiers self.now.depth (S.pre self.now.specifiers) (S.post self.now.specifiers) }
+        requires declares { ReadsPartAs perhaps_of readers.perhaps self.now.depth (P.pre self.now.perhaps) (P.post self.now.perhaps) }
+        requires here { place.old.at < usize.MAX }
+        ensures { ReadsAs titled_of (function_suffix (kinds_of self.now.tokens.now) self.now.depth (titled_of titled) place.old) result place.new }
+    {
+        let whole = self.function_suffix(titled, place)?;
+        Ok(place.grow(whole)?)
+    }
+
     /// What follows a direct declarator, as much as there is.
     #[tactic(auto, using(crate::proofs::DeclaratorSteps::suffixes_no_array, crate::proofs::DeclaratorSteps::suffixes_no_function, crate::proofs::DeclaratorSteps::suffixes_end, crate::proofs::DeclaratorSteps::suffixes_none))]
     fn with_suffixes(&self, titled: Titled, place: &mut Cursor) -> Result<Titled, Fault>
@@ -328,8 +348,8 @@ impl<
         let mut whole = titled;
         for _turn in 0..self.depth {
             match mark_at(self.tokens, place) {
-                Mark::SquareOpens => whole = self.array_suffix(whole, place)?,
-                Mark::RoundOpens => whole = self.function_suffix(whole, place)?,
+                Mark::SquareOpens => whole = self.grown_array(whole, place)?,
+                Mark::RoundOpens => whole = self.grown_function(whole, place)?,
                 _ => return Ok(whole),
             }
         }

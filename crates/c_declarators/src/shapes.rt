@@ -4,14 +4,13 @@ ghost use Rattle.std.specs.Prelude.{◌≡◌, IfOk};
 ghost use Rattle.c_tree.specs.Spells as spelled;
 ghost use Rattle.c_tree.specs.declared.expression.Declarator.TheVariants as tree;
 ghost use Rattle.c_grammar.specs.ReadTypes as spec;
-ghost use Rattle.c_marks.specs.Reads.{titled_of};
+ghost use Rattle.c_cursor.specs.Reads.{titled_of};
 
 use crate::declarators::Parameters;
+use crate::sizes::array_of;
 use c_boxes::beside;
-use c_marks::Titled;
-use c_scopes::Block;
+use c_cursor::{Block, Titled};
 use c_tree::{Declarator, Expression, Qualifier};
-use c_type_names::array_of;
 use kv_base::{NoMemory, Sequence};
 use sqlite_items::Boxed;
 use std::alloc::Global;
@@ -82,7 +81,7 @@ pub fn pointer(
     })
 }
 
-/// An array of so many of what the name is.
+/// An array of a number of what the name is.
 pub fn array(alloc: Global, titled: Titled, size: Expression, at: usize) -> Result<Titled, NoMemory>
     ensures { IfOk result (λ made. titled_of made ≡ spec.Titles titled.name titled.parameters (tree.Array titled.inner size at)) }
 {

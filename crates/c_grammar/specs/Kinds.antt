@@ -1,8 +1,8 @@
--- What a token is for an expression: what it is behind an operand, and what it is where an operand is due.
+-- What a token is for an expression: what it is after an operand, and what it is where an operand is due.
 use Rattle.std.specs.Prelude.{ℕ, ℤ, ◌+◌, Bool, true, false, ◌&&◌, nat_le, List, Option, Some, None, slice_get}
 use Rattle.kv_num.specs.declared.types.IntType.{IntType}
-use Rattle.c_model.specs.declared.token.TokenKind.{TokenKind}
-use Rattle.c_model.specs.declared.token.TokenKind.TheVariants as token
+use Rattle.c_tokens.specs.declared.token.TokenKind.{TokenKind}
+use Rattle.c_tokens.specs.declared.token.TokenKind.TheVariants as token
 use Rattle.c_tree.specs.declared.expression.Step.{Step}
 use Rattle.c_tree.specs.declared.expression.Step.TheVariants as step
 use Rattle.c_tree.specs.declared.expression.UnaryOperator.{UnaryOperator}
@@ -17,7 +17,7 @@ pub use Rattle.c_grammar.specs.declared.kinds.Suffix.TheVariants.{Infix, Assigns
 abbrev pub kind_at : List TokenKind → Place → Option TokenKind
 kind_at kinds p = slice_get kinds p.at
 
--- ---- behind an operand
+-- ---- after an operand
 
 abbrev pub suffix_of : TokenKind → Suffix
 suffix_of token.OrOr = Infix binary.LogicalOr

@@ -1,8 +1,8 @@
 -- What a token is for a declaration, a type or a statement.
 use Rattle.std.specs.Prelude.{ℕ, Bool, true, false, List, Option, Some, None}
 use Rattle.kv_num.specs.declared.types.IntType.{IntType}
-use Rattle.c_model.specs.declared.token.TokenKind.{TokenKind}
-use Rattle.c_model.specs.declared.token.TokenKind.TheVariants as token
+use Rattle.c_tokens.specs.declared.token.TokenKind.{TokenKind}
+use Rattle.c_tokens.specs.declared.token.TokenKind.TheVariants as token
 use Rattle.c_tree.specs.declared.expression.StorageWord.{StorageWord}
 use Rattle.c_tree.specs.declared.expression.StorageWord.TheVariants as storage
 use Rattle.c_tree.specs.declared.expression.FunctionWord.{FunctionWord}
@@ -139,7 +139,7 @@ mark_at kinds p = mark (kind_at kinds p)
 
 -- ---- what goes on
 
--- a declarator, and what has no meaning behind it, goes on with it
+-- a declarator, and what has no meaning after it, goes on with it
 abbrev pub extends_declarator : Mark → Bool
 extends_declarator RoundOpens = true
 extends_declarator SquareOpens = true
@@ -147,7 +147,7 @@ extends_declarator Attribute = true
 extends_declarator Extension = true
 extends_declarator _ = false
 
--- it may stand behind specifiers
+-- it may follow specifiers
 abbrev pub follows_specifiers : Mark → Bool
 follows_specifiers (Name text) = true
 follows_specifiers RoundOpens = true

@@ -1,6 +1,6 @@
 -- The readers of declarations and statements.
 use Rattle.std.specs.Prelude.{ℕ, zero, suc, Bool, true, false, List, [], ◌∷◌, Option, Some, None}
-use Rattle.c_model.specs.declared.token.TokenKind.{TokenKind}
+use Rattle.c_tokens.specs.declared.token.TokenKind.{TokenKind}
 use Rattle.c_tree.specs.declared.expression.Expression.{Expression}
 use Rattle.c_tree.specs.declared.expression.Specifier.{Specifier}
 use Rattle.c_tree.specs.declared.declaration.Initialiser.{Initialiser}
@@ -38,7 +38,7 @@ unfoldable pub initialiser : List TokenKind → ℕ → ReadsInitialiser
 initialiser kinds zero p = Refuses
 initialiser kinds (suc n) p = initialiser_by kinds (read kinds (suc n)) (listed kinds (initialiser kinds n) n) p (mark_at kinds p)
 
--- behind a declarator; it declares a typedef name or not
+-- after a declarator; it declares a typedef name or not
 abbrev pub declared_by : ReadsInitialiser → Bool → Titled → Place → Mark → Outcome Declared
 declared_by ini defines (Titles name parameters inner) q sign.Equals =
     and_then (ini (declare (next q) name defines)) (λ x r. Gives (declared_node.Initialised inner x q.at) r)
@@ -50,11 +50,11 @@ declared_after kinds ini defines d q = declared_by ini defines d q (mark_at kind
 abbrev pub declared : List TokenKind → ReadsDeclarator → ReadsInitialiser → Bool → Place → Outcome Declared
 declared kinds dc ini defines p = and_then (dc p) (declared_after kinds ini defines)
 
--- behind all names
+-- after all names
 abbrev pub declaration_end : List TokenKind → List Specifier → List Declared → Place → Outcome Declaration
 declaration_end kinds list names r = where_semicolon (mark_at kinds r) (Gives (record { specifiers = list; names = names; at = r.at }) (next r))
 
--- behind the specifiers (6.7)
+-- after the specifiers (6.7)
 abbrev pub declaration_by : List TokenKind → (Bool → ListOf Declared) → Bool → List Specifier → Place → Mark → Outcome Declaration
 declaration_by kinds names defines list q sign.Semicolon = Gives (record { specifiers = list; names = []; at = q.at }) (next q)
 declaration_by kinds names defines list q _ = and_then (names defines q) (declaration_end kinds list)
@@ -117,12 +117,12 @@ pub data Chain : Type 0 where
 abbrev pub first_chained : Branch → Chain → Place → Outcome Chain
 first_chained branch (Chains branches otherwise) s = Gives (Chains (branch ∷ branches) otherwise) (leave (leave s))
 
--- behind `else`, whose place is r
+-- after `else`, whose place is r
 abbrev pub else_by : ReadsStatement → (Place → Outcome Chain) → Branch → Place → Mark → Outcome Chain
 else_by st more branch r sign.If = and_then (more (enter (leave (next r)))) (first_chained branch)
 else_by st more branch r _ = and_then (st (enter (leave (next r)))) (λ x s. Gives (Chains (branch ∷ []) (Some x)) (leave (leave s)))
 
--- behind what an `if` runs
+-- after what an `if` runs
 abbrev pub chain_by : List TokenKind → ReadsStatement → (Place → Outcome Chain) → Branch → Place → Mark → Outcome Chain
 chain_by kinds st more branch r sign.Else = else_by st more branch r (mark_at kinds (next r))
 chain_by kinds st more branch r _ = Gives (Chains (branch ∷ []) None) (leave (leave r))
@@ -215,7 +215,7 @@ do_after kinds rd p body q =
 abbrev pub do_statement : List TokenKind → Reader → ReadsStatement → Place → Outcome Statement
 do_statement kinds rd st p = and_then (st (enter (enter (next p)))) (do_after kinds rd p)
 
--- behind the first part of a `for`, and behind its test
+-- after the first part of a `for`, and after its test
 abbrev pub for_step : List TokenKind → Reader → ReadsStatement → Place → ForStart → Option Expression → Place → Outcome Statement
 for_step kinds rd st p first x r =
     where_semicolon (mark_at kinds r) (and_then (optional_step_by rd (next r) (mark_at kinds (next r))) (λ y s. where_closes (mark_at kinds s)

@@ -1,6 +1,6 @@
 -- The reader of a whole text.
 use Rattle.std.specs.Prelude.{ℕ, zero, suc, ◌+◌, Bool, List, [], ◌∷◌, length, Option, Some, None}
-use Rattle.c_model.specs.declared.token.TokenKind.{TokenKind}
+use Rattle.c_tokens.specs.declared.token.TokenKind.{TokenKind}
 use Rattle.c_tree.specs.declared.expression.Specifier.{Specifier}
 use Rattle.c_tree.specs.declared.declaration.Declared.{Declared}
 use Rattle.c_tree.specs.declared.declaration.Declaration.{Declaration}
@@ -20,7 +20,7 @@ use Rattle.c_grammar.specs.ReadStatements.{initialiser, declared_after, declarat
 abbrev pub is_declaration : Declaration → Place → Outcome External
 is_declaration x q = Gives (external_node.Declared x) q
 
--- behind the first name of a declaration and its initialiser
+-- after the first name of a declaration and its initialiser
 abbrev pub external_names : List TokenKind → (Bool → ListOf Declared) → Bool → List Specifier → Declared → Place → Outcome External
 external_names kinds names defines list x q =
     and_then (separated_after (names defines) x q (mark_at kinds q)) (λ xs r. and_then (declaration_end kinds list xs r) is_declaration)
@@ -31,7 +31,7 @@ defined kinds items defines list (Titles name parameters inner) r =
     and_then (items (enter_with (declare (next r) name defines) (parameters_of parameters)))
     (λ xs s. where_curly_closes (mark_at kinds s) (Gives (external_node.Defined list inner xs r.at) (leave (next s))))
 
--- behind the first declarator: one token says whether a body stands there
+-- after the first declarator: one token says whether a body stands there
 abbrev pub external_by : List TokenKind → ℕ → Bool → List Specifier → Titled → Place → Mark → Outcome External
 external_by kinds n defines list d r sign.CurlyOpens = defined kinds (block kinds (declaration kinds n) (statement kinds n) n) defines list d r
 external_by kinds n defines list d r _ = and_then (declared_after kinds (initialiser kinds n) defines d r) (external_names kinds (names_with kinds n) defines list)

@@ -1,6 +1,6 @@
 -- What the reader of types and declarators does with a token. It never goes back.
 use Rattle.std.specs.Prelude.{ℕ, zero, suc, Bool, true, false, List, [], ◌∷◌, Option, Some, None, if◌then◌else◌}
-use Rattle.c_model.specs.declared.token.TokenKind.{TokenKind}
+use Rattle.c_tokens.specs.declared.token.TokenKind.{TokenKind}
 use Rattle.c_tree.specs.declared.expression.Qualifier.{Qualifier}
 use Rattle.c_tree.specs.declared.expression.Specifier.{Specifier}
 use Rattle.c_tree.specs.declared.expression.Specifier.TheVariants as specifier_node
@@ -48,7 +48,7 @@ where_semicolon _ o = Refuses
 abbrev pub Skips : Type 0
 Skips = Place → Outcome (Unit {0})
 
--- behind the brackets that are open, the innermost first
+-- after the brackets that are open, the innermost first
 abbrev pub balanced_by : (List Bracket → Skips) → List Bracket → Place → Bracketing → Outcome (Unit {0})
 balanced_by go pending p (Opens bracket) = go (bracket ∷ pending) (next p)
 balanced_by go [] p (Closes bracket) = Gives tt p
@@ -61,7 +61,7 @@ unfoldable pub balanced : List TokenKind → ℕ → List Bracket → Skips
 balanced kinds zero pending p = Refuses
 balanced kinds (suc n) pending p = balanced_by (balanced kinds n) pending p (bracketing (kind_at kinds p))
 
--- behind `__attribute__`
+-- after `__attribute__`
 abbrev pub attribute : List TokenKind → Skips → Skips → Place → Outcome (Unit {0})
 attribute kinds inside more p =
     where_opens (mark_at kinds p) (where_opens (mark_at kinds (next p)) (and_then (inside (next (next p)))
@@ -170,7 +170,7 @@ constant_by kinds rd p _ = Refuses
 abbrev pub constant : List TokenKind → Reader → Place → Outcome EnumConstant
 constant kinds rd p = constant_by kinds rd p (mark_at kinds p)
 
--- 6.7.2.1: p is the place of `struct`, q that of what stands behind it and its tag
+-- 6.7.2.1: p is the place of `struct`, q that of what follows it and its tag
 abbrev pub struct_body : List TokenKind → ListOf MemberLine → Place → Option (List ℕ) → Place → Outcome Specific
 struct_body kinds body p tag q = and_then (body (next q)) (λ xs r. where_curly_closes (mark_at kinds r) (Gives (Plays Types (specifier_node.Struct tag xs p.at)) (next r)))
 
@@ -252,13 +252,13 @@ pub data Takes : Type 0 where
 abbrev pub Suffixes : Type 0
 Suffixes = Titled → Place → Outcome Titled
 
--- behind `[`
+-- after `[`
 abbrev pub array_by : List TokenKind → Reader → Suffixes → Titled → Place → Mark → Outcome Titled
 array_by kinds rd go (Titles name parameters inner) q sign.SquareCloses = go (Titles name parameters (declarator_node.OpenArray inner q.at)) (next (next q))
 array_by kinds rd go (Titles name parameters inner) q _ =
     and_then (rd 2 (next q)) (λ size r. where_square_closes (mark_at kinds r) (go (Titles name parameters (declarator_node.Array inner size q.at)) (next r)))
 
--- behind `(`
+-- after `(`
 abbrev pub with_parameters : List TokenKind → Suffixes → Titled → Place → Takes → Place → Outcome Titled
 with_parameters kinds go (Titles name parameters inner) q (Taken list variadic) r =
     where_closes (mark_at kinds r) (go (Titles name (nearest parameters (first_of r.blocks)) (declarator_node.Function inner list variadic q.at)) (leave (next r)))
@@ -286,7 +286,7 @@ pub data Perhaps : Type 0 where
 abbrev pub ReadsPerhaps : Type 0
 ReadsPerhaps = Place → Outcome Perhaps
 
--- with a name, and what has no meaning behind it
+-- with a name, and what has no meaning after it
 abbrev pub decorated_by : Skips → Perhaps → Place → Outcome Titled
 decorated_by skip (With d) q = and_then (skip q) (λ u r. Gives d r)
 decorated_by skip (Without inner) q = Refuses
@@ -335,7 +335,7 @@ unfoldable pub parameters : List TokenKind → (Place → Outcome Parameter) →
 parameters kinds one zero p = Refuses
 parameters kinds one (suc n) p = and_then (one p) (λ x q. parameters_after kinds (parameters kinds one n) x q (mark_at kinds q))
 
--- behind a token of a declarator, over what reads the parts with this number
+-- after a token of a declarator, over what reads the parts with this number
 abbrev pub suffixes_with : List TokenKind → Reader → ReadsSpecifiers → ReadsPerhaps → ℕ → Suffixes
 suffixes_with kinds rd sp one n = suffixes kinds rd (parameters kinds (parameter (attributes kinds n) sp one) n) n
 

@@ -1,6 +1,6 @@
 -- What the reader of expressions does with a token. It never goes back.
 use Rattle.std.specs.Prelude.{ℕ, zero, suc, ◌+◌, Bool, true, false, nat_le, List, [], ◌∷◌, if◌then◌else◌}
-use Rattle.c_model.specs.declared.token.TokenKind.{TokenKind}
+use Rattle.c_tokens.specs.declared.token.TokenKind.{TokenKind}
 use Rattle.c_tree.specs.declared.expression.Expression.{Expression}
 use Rattle.c_tree.specs.declared.expression.Expression.TheVariants as tree
 use Rattle.c_tree.specs.declared.expression.TypeName.{TypeName}
@@ -8,7 +8,7 @@ use Rattle.c_tree.specs.Places.{Place, next, names_type}
 use Rattle.c_tree.specs.Signs.{level}
 use Rattle.c_grammar.specs.Kinds.{kind_at, Suffix, Infix, Assigns, Asks, Commas, Subscripts, Calls, Selects, Points, Steps, ClosesRound, ClosesSquare, Colons, NoSuffix, suffix, Prefix, Names, Constants, Texts, Opens, StepsFirst, Operates, Sizes, NoPrefix, prefix, begins_type}
 
--- what was read and the place behind it, or nothing
+-- what was read and the place after it, or nothing
 pub data Outcome (A : Type 0) : Type 0 where
   Gives : (x : A) (q : Place) → Outcome A
   Refuses : Outcome A
@@ -38,7 +38,7 @@ where_name _ f = Refuses
 abbrev pub Reader : Type 0
 Reader = ℕ → Place → Outcome Expression
 
--- goes on behind an operand of the first level, for an expression of the second level or above
+-- goes on after an operand of the first level, for an expression of the second level or above
 abbrev pub Continues : Type 0
 Continues = ℕ → ℕ → Expression → Place → Outcome Expression
 
@@ -59,7 +59,7 @@ unfoldable pub items : List TokenKind → Reader → ℕ → Lists
 items kinds rd zero p = Refuses
 items kinds rd (suc n) p = and_then (rd 1 p) (λ x q. items_after (items kinds rd n) x q (suffix (kind_at kinds q)))
 
--- ---- behind an operand
+-- ---- after an operand
 
 abbrev pub call_of : List TokenKind → Lists → Continues → ℕ → Expression → Place → Suffix → Outcome Expression
 call_of kinds list go least x q ClosesRound = go 15 least (tree.Call x [] q.at) (next (next q))

@@ -1,6 +1,6 @@
 -- The readers of expressions, specifiers and declarators, which reach one another.
 use Rattle.std.specs.Prelude.{ℕ, zero, suc, List, if◌then◌else◌}
-use Rattle.c_model.specs.declared.token.TokenKind.{TokenKind}
+use Rattle.c_tokens.specs.declared.token.TokenKind.{TokenKind}
 use Rattle.c_tree.specs.declared.expression.MemberLine.{MemberLine}
 use Rattle.c_tree.specs.declared.expression.EnumConstant.{EnumConstant}
 use Rattle.c_grammar.specs.Kinds.{kind_at, suffix, goes_on, prefix}
@@ -43,6 +43,6 @@ unfoldable mutual
 abbrev pub types : List TokenKind → ℕ → Types
 types kinds n = type_name kinds (read kinds n) (specifiers kinds n) n
 
--- a declarator with a name, and what has no meaning behind it
+-- a declarator with a name, and what has no meaning after it
 abbrev pub declarator : List TokenKind → ℕ → ReadsDeclarator
 declarator kinds n = decorated (attributes kinds n) (perhaps kinds n)

@@ -1,11 +1,11 @@
-//! What a token is behind an operand.
+//! What a token is after an operand.
 
 ghost use Rattle.std.specs.Prelude.{◌≡◌, ◌≤◌};
 ghost use Rattle.c_tree.specs.Signs as sign;
 ghost use Rattle.c_grammar.specs.Kinds as spec;
 ghost use Rattle.c_grammar.specs.Suffixes.{reached};
 
-use c_model::TokenKind;
+use c_tokens::TokenKind;
 use c_tree::{AssignOperator, BinaryOperator, Step};
 
 /// An assignment expression and above (C11 6.5.16).
@@ -19,7 +19,7 @@ pub const UNARY: u8 = 14;
 /// A postfix or primary expression (6.5.2, 6.5.1).
 pub const POSTFIX: u8 = 15;
 
-/// What a token is behind an operand.
+/// What a token is after an operand.
 #[derive(Clone, Copy, Debug, PartialEq, Eq)]
 pub enum Suffix {
     /// An operator between two operands.
@@ -48,7 +48,7 @@ pub enum Suffix {
     NoSuffix,
 }
 
-/// What a token is behind an operand.
+/// What a token is after an operand.
 pub fn suffix_of(kind: &TokenKind) -> Suffix
     ensures { result ≡ spec.suffix_of kind.now }
 {

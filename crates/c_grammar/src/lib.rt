@@ -1,7 +1,6 @@
-//! The grammar of C: what a token is for it, the reader of texts as a function, and its laws.
+//! The grammar of C: what a token is for it, and the reader of texts as a function.
 #![tactic(auto)]
 
 mod kinds;
-pub mod laws;
 
 pub use kinds::{ASSIGNMENT, CAST, CONDITIONAL, POSTFIX, Suffix, UNARY, level, suffix_of};

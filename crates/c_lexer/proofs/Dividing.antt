@@ -1,23 +1,23 @@
 -- One step of a division, and the places of faults in a directive.
 use Rattle.std.proofs.Common.{◌≡◌, ℕ, zero, suc, ◌+◌, ◌-◌, ◌<◌, ◌≤◌, Bool, true, false, ◌&&◌, ◌||◌, cond, List, [], ◌∷◌, length, take, drop, Option, Some, None, arith, refl, sym, ap, ◌∙◌, add-one, codes, length-drop, nat_lt, nat_le}
-use Rattle.c_model.specs.declared.data_model.DataModel.{DataModel}
-use Rattle.c_model.specs.Directives.{Context, Outside, Form, Nothing, Includes, Defines, Wrong, replacement, define_form, include_form, form_of, open_comment, after, ends_line, opens_block, first_or_0, is_in_block, is_blank, in_spelling, without_space, word_size}
+use Rattle.c_tokens.specs.declared.data_model.DataModel.{DataModel}
+use Rattle.c_tokens.specs.Directives.{Context, Outside, Form, Nothing, Includes, Defines, Wrong, replacement, define_form, include_form, form_of, open_comment, after, ends_line, opens_block, first_or_0, is_in_block, is_blank, in_spelling, without_space, word_size}
 use Rattle.std.specs.Str.{bytes_eq}
-use Rattle.c_model.specs.Pieces.{begins_digit, begins_number, is_empty, begins_with, run_size}
-use Rattle.c_model.specs.Constants.{number_of}
-use Rattle.c_model.specs.Headers.{Header, headers}
-use Rattle.c_model.specs.Words.{lookup}
+use Rattle.c_tokens.specs.Pieces.{begins_digit, begins_number, is_empty, run_size}
+use Rattle.c_tokens.specs.Constants.{number_of}
+use Rattle.c_tokens.specs.Headers.{Header, headers}
+use Rattle.c_tokens.specs.Words.{lookup}
 use Rattle.std.proofs.lemmas.Slice.{between_to_end}
-use Rattle.c_model.specs.Reading.{State, Step, Goes, Stops, Fault, Reading, Read, Fails, divided, large_constant, is_too_large, splice_from, with_splice, place_of}
-use Rattle.c_model.specs.declared.token.Token.{Token}
+use Rattle.c_tokens.specs.Reading.{State, Advance, Goes, Stops, Fault, Reading, Read, Fails, divided, large_constant, is_too_large, moves_lines, splice_from, with_splice, place_of}
+use Rattle.c_tokens.specs.declared.token.Token.{Token}
 use Rattle.std.proofs.lemmas.Bool.Decides.{nat_tests}
-use Rattle.c_lexer.specs.Steps.{step_at, IsReady, IsStop, IsFault, fault_place}
+use Rattle.c_lexer.specs.States.{step_at, IsReady, IsStop, IsFault, fault_place}
 use Rattle.c_lexer.specs.declared.lexer.LexFault.{LexFault}
 use Rattle.c_lexer.specs.declared.lexer.LexFault.TheVariants as faults
-use Rattle.c_model.specs.Reading.{NoToken, Directive, LongConstant, TooManyTokens}
-use Rattle.c_lexer.specs.declared.lexer.Reader.{Reader}
+use Rattle.c_tokens.specs.Reading.{NoToken, Directive, LongConstant, TooManyTokens}
+use Rattle.c_lexer.specs.declared.lexer.Lexer.{Lexer}
 
-abbrev after_step : ℕ → DataModel → State → List ℕ → Step → Reading
+abbrev after_step : ℕ → DataModel → State → List ℕ → Advance → Reading
 after_step n model state rest s = elim s as (λ _. Reading) [ Goes size later ↦ divided n model later (drop size rest) | Stops fault ↦ Fails fault ]
 
 pub record IsNext (n : ℕ) (model : DataModel) (state later : State) (rest left : List ℕ) : Type 0 where
@@ -137,28 +137,25 @@ open_place cs place e = let h = open_within Outside 0 0 place cs (omega arith) e
 
 -- ---- readers
 
-pub ready_again : (model : DataModel) (reader : Reader) → IsReady model reader → IsReady reader.model reader
-ready_again model reader h = record { model_is = refl; names_model = h.names_model ∙ sym h.model_is; known = h.known; line_bound = h.line_bound }
+pub ready_again : (model : DataModel) (lexer : Lexer) → IsReady model lexer → IsReady lexer.model lexer
+ready_again model lexer h = record { model_is = refl; macros_model = h.macros_model ∙ sym h.model_is; known = h.known; line_bound = h.line_bound }
 
 -- ---- line splices
 
-abbrev is_splice : List ℕ → Bool
-is_splice text = begins_with (codes "\\\n") text || begins_with (codes "??/\n") text
-
-splice-drop : (i : ℕ) (text : List ℕ) → i < length text → splice_from (drop i text) ≡ cond (is_splice (drop i text)) 0 (splice_from (drop (suc i) text) + 1)
+splice-drop : (i : ℕ) (text : List ℕ) → i < length text → splice_from (drop i text) ≡ cond (moves_lines (drop i text)) 0 (splice_from (drop (suc i) text) + 1)
 unfolding splice_from
 splice-drop i [] h = absurd (omega arith)
 splice-drop zero (c ∷ cs) h = refl
 splice-drop (suc i) (c ∷ cs) h = splice-drop i cs (omega arith)
 
-test_of : (i : ℕ) (text : List ℕ) (b : Bool) → b ≡ is_splice (take (length text - i) (drop i text)) → is_splice (drop i text) ≡ b
-test_of i text b e = sym (e ∙ ap is_splice (between_to_end text i (length text) (omega arith)))
+test_of : (i : ℕ) (text : List ℕ) (b : Bool) → b ≡ moves_lines (take (length text - i) (drop i text)) → moves_lines (drop i text) ≡ b
+test_of i text b e = sym (e ∙ ap moves_lines (between_to_end text i (length text) (omega arith)))
 
-pub splice_here : (i all : ℕ) (text : List ℕ) → i < length text → true ≡ is_splice (take (length text - i) (drop i text)) → i + splice_from (drop i text) ≡ all → i ≡ all
+pub splice_here : (i all : ℕ) (text : List ℕ) → i < length text → true ≡ moves_lines (take (length text - i) (drop i text)) → i + splice_from (drop i text) ≡ all → i ≡ all
 splice_here i all text h e r =
     let none : splice_from (drop i text) ≡ 0 = splice-drop i text h ∙ ap (λ b. cond b 0 (splice_from (drop (suc i) text) + 1)) (test_of i text true e) in omega arith
 
-pub splice_later : (i all : ℕ) (text : List ℕ) → i < length text → false ≡ is_splice (take (length text - i) (drop i text)) → i + splice_from (drop i text) ≡ all → i + 1 + splice_from (drop (i + 1) text) ≡ all
+pub splice_later : (i all : ℕ) (text : List ℕ) → i < length text → false ≡ moves_lines (take (length text - i) (drop i text)) → i + splice_from (drop i text) ≡ all → i + 1 + splice_from (drop (i + 1) text) ≡ all
 splice_later i all text h e r =
     let one : splice_from (drop i text) ≡ splice_from (drop (suc i) text) + 1 = splice-drop i text h ∙ ap (λ b. cond b 0 (splice_from (drop (suc i) text) + 1)) (test_of i text false e) in
     rw (add-one i) (omega arith)

@@ -1,10 +1,2 @@
-pub mod Replacing
 pub mod Sizes
 pub mod Dividing
-pub mod Chains
-pub mod Circles
-pub mod Marks
-pub mod Trails
-pub mod Known
-pub mod Places
-pub mod Links

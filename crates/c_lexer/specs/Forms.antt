@@ -1,12 +1,12 @@
 -- The contexts and forms of the code as those of the definition.
 use Rattle.std.specs.Prelude.{ℕ, ◌||◌, List, if◌then◌else◌}
-use Rattle.c_model.specs.Pieces.{begins_name}
-use Rattle.c_model.specs.Directives.{Context as SpecContext, Outside, InQuotes, InLine, AtOpening, InBlock, Form as SpecForm, Nothing, Includes, Defines, Wrong, is_commented, opens_comment, word_size, number_size}
+use Rattle.c_tokens.specs.Pieces.{begins_name}
+use Rattle.c_tokens.specs.Directives.{Context as SpecContext, Outside, InQuotes, InLine, AtOpening, InBlock, Form as SpecForm, Nothing, Includes, Defines, Wrong, is_commented, opens_comment, word_size, number_size}
 use Rattle.c_lexer.specs.declared.directives.Context.{Context}
 use Rattle.c_lexer.specs.declared.directives.Context.TheVariants as contexts
 use Rattle.c_lexer.specs.declared.directives.Form.{Form}
 use Rattle.c_lexer.specs.declared.directives.Form.TheVariants as forms
-use Rattle.c_lexer.specs.HeaderRows.{header_view}
+use Rattle.c_macros.specs.HeaderRows.{header_view}
 
 abbrev pub context_view : Context → SpecContext
 context_view contexts.Outside = Outside

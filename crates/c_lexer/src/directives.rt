@@ -1,12 +1,12 @@
 ghost use Rattle.std.specs.Prelude.{◌≡◌, ◌≤◌, ◌+◌, length, IfOk, Bool, ℕ};
 ghost use Rattle.std.specs.Option.{option_map};
-ghost use Rattle.c_model.specs.Pieces.{begins_name};
-ghost use Rattle.c_model.specs.Directives.{Outside, after, define_form, ends_line, first_or_0, form_of, include_form, is_commented, is_in_block, line_from, number_size, open_comment, opens_block, opens_comment, opens_line, replacement, without_space, word_size};
+ghost use Rattle.c_tokens.specs.Pieces.{begins_name};
+ghost use Rattle.c_tokens.specs.Directives.{Outside, after, define_form, ends_line, first_or_0, form_of, include_form, is_commented, is_in_block, line_from, number_size, open_comment, opens_block, opens_comment, opens_line, replacement, without_space, word_size};
 ghost use Rattle.c_lexer.specs.Forms.{context_view, form_view, replacement_size, shown};
 ghost use Rattle.std.specs.Prelude.{◌<◌, drop};
-ghost use Rattle.c_model.specs.Directives.{InQuotes, InBlock};
+ghost use Rattle.c_tokens.specs.Directives.{InQuotes, InBlock};
 
-use crate::headers::{Header, find_header};
+use c_macros::{Header, find_header};
 use c_scan::{Run, begins_digit, begins_name, begins_number, is_blank, run_size, suffix_of};
 use kv_base::{Bytes, NoMemory, Sequence};
 use std::alloc::Global;
@@ -26,6 +26,7 @@ pub(crate) enum Context {
     InBlock { starred: bool },
 }
 
+/// Whether the byte opens a comment to the end of the line, with the byte after it.
 fn opens_line(context: Context, c: u8, next: u8) -> bool
     ensures { result ≡ opens_line (context_view context) c next }
 {
@@ -35,6 +36,7 @@ fn opens_line(context: Context, c: u8, next: u8) -> bool
     }
 }
 
+/// Whether the byte opens a block comment, with the byte after it.
 fn opens_block(context: Context, c: u8, next: u8) -> bool
     ensures { result ≡ opens_block (context_view context) c next }
 {
@@ -44,6 +46,7 @@ fn opens_block(context: Context, c: u8, next: u8) -> bool
     }
 }
 
+/// Whether the byte stands in a comment.
 fn is_commented(context: Context) -> bool
     ensures { result ≡ is_commented (context_view context) }
 {
@@ -53,6 +56,7 @@ fn is_commented(context: Context) -> bool
     }
 }
 
+/// Whether the byte stands in a block comment.
 fn is_in_block(context: Context) -> bool
     ensures { result ≡ is_in_block (context_view context) }
 {
@@ -62,6 +66,7 @@ fn is_in_block(context: Context) -> bool
     }
 }
 
+/// Where the byte after this one stands, if this one stands outside of quotes and comments.
 fn after_outside(c: u8, next: u8) -> Context
     ensures { context_view result ≡ after Outside c next }
 {
@@ -80,6 +85,7 @@ fn after_outside(c: u8, next: u8) -> Context
     Context::Outside
 }
 
+/// Where the byte after this one stands, if this one stands in quotes.
 fn after_quoted(quote: u8, taken: bool, c: u8) -> Context
     ensures { context_view result ≡ after (InQuotes quote taken) c 0 }
 {
@@ -98,6 +104,7 @@ fn after_quoted(quote: u8, taken: bool, c: u8) -> Context
     }
 }
 
+/// Where the byte after this one stands, if this one stands in a block comment.
 fn after_block(starred: bool, c: u8) -> Context
     ensures { context_view result ≡ after (InBlock starred) c 0 }
 {
@@ -151,9 +158,9 @@ fn shown(context: Context, c: u8, next: u8) -> u8
     }
 }
 
-#[tactic(auto, unfolding(c_model::specs::Directives::line_from))]
 /// The line of a directive after its `#`: its bytes up to the newline that ends it, those of comments as
 /// spaces (C11 5.1.1.2p1).
+#[tactic(auto, unfolding(c_tokens::specs::Directives::line_from))]
 pub(crate) fn line_of(alloc: Global, bytes: &[u8]) -> Result<Bytes, NoMemory>
     ensures ok { IfOk result (λ line. line ≡ line_from Outside bytes.now) }
     ensures within { IfOk result (λ line. length line ≤ length bytes.now) }
@@ -171,8 +178,8 @@ pub(crate) fn line_of(alloc: Global, bytes: &[u8]) -> Result<Bytes, NoMemory>
     Ok(Sequence::from_vec(line))
 }
 
-#[tactic(auto, unfolding(c_model::specs::Directives::open_comment))]
 /// Where the comment begins that isn't closed on the line of a directive, if there is one.
+#[tactic(auto, unfolding(c_tokens::specs::Directives::open_comment))]
 pub(crate) fn open_comment(bytes: &[u8]) -> Option<usize>
     ensures { result ≡ open_comment Outside 0 0 bytes.now }
 {
@@ -214,6 +221,7 @@ pub(crate) enum Form<'a> {
     Wrong,
 }
 
+/// The text after the white space at its front.
 fn without_space(text: &[u8]) -> &[u8]
     ensures value { result.now ≡ without_space text.now }
     ensures within { length result.now ≤ length text.now }
@@ -221,6 +229,7 @@ fn without_space(text: &[u8]) -> &[u8]
     &text[run_size(Run::Space, 0, text)..]
 }
 
+/// How long the word at the front is.
 fn word_size(text: &[u8]) -> usize
     ensures size { result ≡ word_size text.now }
     ensures within { result ≤ length text.now }
@@ -242,8 +251,8 @@ fn replacement_size(text: &[u8]) -> usize
     0
 }
 
-#[tactic(auto, unfolding(c_model::specs::Directives::replacement))]
 /// The replacement in a `#define`: a name or an integer constant, and nothing after it.
+#[tactic(auto, unfolding(c_tokens::specs::Directives::replacement))]
 fn replacement<'a>(place: usize, name: &'a [u8], text: &'a [u8]) -> Form<'a>
     ensures { form_view result ≡ replacement place name.entry.now text.entry.now }
 {
@@ -261,8 +270,8 @@ fn replacement<'a>(place: usize, name: &'a [u8], text: &'a [u8]) -> Form<'a>
     Form::Wrong
 }
 
-#[tactic(auto, unfolding(c_model::specs::Directives::define_form))]
 /// What follows the word `define` (6.10.3).
+#[tactic(auto, unfolding(c_tokens::specs::Directives::define_form))]
 fn define_form<'a>(len: usize, rest: &'a [u8]) -> Form<'a>
     requires { length rest.now ≤ len }
     ensures { form_view result ≡ define_form len rest.entry.now }
@@ -275,8 +284,8 @@ fn define_form<'a>(len: usize, rest: &'a [u8]) -> Form<'a>
     replacement(len - text.len(), &rest[..size], text)
 }
 
-#[tactic(auto, unfolding(c_model::specs::Directives::include_form))]
 /// What follows the word `include` (6.10.2).
+#[tactic(auto, unfolding(c_tokens::specs::Directives::include_form))]
 fn include_form<'a>(rest: &'a [u8]) -> Form<'a>
     ensures { form_view result ≡ include_form rest.entry.now }
 {
@@ -292,8 +301,8 @@ fn include_form<'a>(rest: &'a [u8]) -> Form<'a>
     }
 }
 
-#[tactic(auto, unfolding(c_model::specs::Directives::form_of))]
 /// What a directive says, by its line after the `#`.
+#[tactic(auto, unfolding(c_tokens::specs::Directives::form_of))]
 pub(crate) fn form_of<'a>(line: &'a [u8]) -> Form<'a>
     ensures { form_view result ≡ form_of line.entry.now }
 {

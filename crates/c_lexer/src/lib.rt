@@ -2,8 +2,7 @@
 #![tactic(auto)]
 
 mod directives;
-mod headers;
 mod lexer;
-mod names;
 
-pub use lexer::{LexFault, MAX_BYTES, MAX_NAME_BYTES, MAX_TOKENS, lex};
+pub use c_tokens::{MAX_BYTES, MAX_NAME_BYTES, MAX_TOKENS};
+pub use lexer::{LexFault, lex};

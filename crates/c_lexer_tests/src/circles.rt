@@ -1,6 +1,6 @@
 use crate::shown;
 use c_lexer::{MAX_BYTES, lex};
-use c_model::{DataModel, TokenKind, Tokens};
+use c_tokens::{DataModel, TokenKind, Tokens};
 use std::alloc::{AllocError, Global};
 use std::test::Fail;
 
@@ -89,7 +89,7 @@ fn define(text: &mut Vec<u8>, name: [u8; 6], other: [u8; 6]) -> Result<(), Alloc
     Ok(())
 }
 
-/// Each of so many names is replaced by the next, and the last by another one.
+/// Each of a number of names is replaced by the next, and the last by another one.
 fn chain(text: &mut Vec<u8>, letter: u8, count: u32, last: [u8; 6]) -> Result<(), AllocError> {
     for number in 0..count {
         let next = number + 1;
@@ -103,7 +103,7 @@ fn chain(text: &mut Vec<u8>, letter: u8, count: u32, last: [u8; 6]) -> Result<()
     Ok(())
 }
 
-/// Each of so many names, on a line of its own, the last first.
+/// Each of a number of names, on a line of its own, the last first.
 fn uses(text: &mut Vec<u8>, letter: u8, count: u32) -> Result<(), AllocError> {
     for number in 0..count {
         text.extend_from_slice(&name_of(letter, count - 1 - number))?;

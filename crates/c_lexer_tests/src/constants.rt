@@ -1,5 +1,5 @@
 use crate::shown;
-use c_model::DataModel;
+use c_tokens::DataModel;
 use std::test::Fail;
 
 // Integer constants by the table of 6.4.4.1: a text, and what it is where `long` has 64 bits and where it has 32.

@@ -1,9 +1,11 @@
 use crate::shown;
-use c_model::DataModel;
+use c_tokens::DataModel;
+use std::alloc::Global;
+use std::process::Abort;
 use std::test::Fail;
 
-// Tokens, white space, comments and line splices (5.1.1.2, 6.4).
-static TOKENS: [(&[u8], &str); 25] = [
+// Tokens, white space and comments (6.4).
+static TOKENS: [(&[u8], &str); 20] = [
     (b"", ""),
     (b"@", "no token at 0"),
     (b"a+++b", "a Increment Plus b"),
@@ -30,15 +32,62 @@ static TOKENS: [(&[u8], &str); 25] = [
     (b"f(\"a\\\\\\\"b\");", "no token at 2"),
     (b"/* \xff */ \"\xff\" x", "Text x"),
     (b"x \xff", "no token at 2"),
+];
+
+// Line splices: with a newline after white space of any kind, in comments, strings and directives; a fault before
+// one comes first (5.1.1.2, 5.2.1.1).
+static SPLICES: [(&[u8], &str); 29] = [
     (b"// a \\\ny;", "no token at 5"),
     (b"/* a\n \\\n*/y;", "no token at 6"),
     (b"/* a\n \\\ny;", "no token at 0"),
     (b"f(\"a\\\nb\");", "no token at 2"),
     (b"// a ??/\ny;", "no token at 5"),
+    (b"#pragma x \\\ny", "no token at 10"),
+    (b"#if 1 \\\ny", "directive at 0"),
+    (b"#define N 1 \\\ny", "directive at 0"),
+    (b"// a \\ \ny;", "no token at 5"),
+    (b"// a \\\r\ny;", "no token at 5"),
+    (b"// a \\ \t\x0b\x0c\r\ny;", "no token at 5"),
+    (b"// a ??/\r\ny;", "no token at 5"),
+    (b"// a ??/ \t\ny;", "no token at 5"),
+    (b"/* a \\\r\n*/y;", "no token at 5"),
+    (b"f(\"a\\\r\nb\");", "no token at 2"),
+    (b"#pragma x \\ \r\ny", "no token at 10"),
+    (b"#define N 1 \\\r\ny", "directive at 0"),
+    (b"@ // a \\\r\ny;", "no token at 0"),
+    (b"x \\\r\ny;", "no token at 2"),
+    (b"// a \\\\\ny;", "no token at 6"),
+    (b"// a \\ b\ny;", "y Semicolon"),
+    (b"// a ??/ b\r\ny;", "y Semicolon"),
+    (b"// a ?/\r\ny;", "y Semicolon"),
+    (b"y; // a \\ \r", "no token at 10"),
+    (b"// a \\\x00\ny;", "no token at 5"),
+    (b"y; // a\rx;\n", "no token at 7"),
+    (b"/* a\r */y;", "no token at 4"),
+    (b"#pragma a\ry;", "no token at 9"),
+    (b"y\r\r\n;", "no token at 1"),
+];
+
+// Encoding prefixes (6.4.4.4, 6.4.5).
+static PREFIXES: [(&[u8], &str); 14] = [
+    (b"int x=L'a';", "no token at 6"),
+    (b"f(u8\"a\");", "no token at 2"),
+    (b"int L;L=1;", "Int L Semicolon L Equal 1:Int Semicolon"),
+    (b"L\"a\"", "no token at 0"),
+    (b"u'a'", "no token at 0"),
+    (b"u\"a\"", "no token at 0"),
+    (b"U'a'", "no token at 0"),
+    (b"U\"a\"", "no token at 0"),
+    (b"u8'a'", "no token at 0"),
+    (b"#define L return\nL'a'", "no token at 17"),
+    (b"#define N L'a'\nN", "directive at 0"),
+    (b"#pragma L'a'\nx", "x"),
+    (b"L 'a' u8/**/\"a\"", "L 97:Int u8 Text"),
+    (b"LL'a' u9'b' xu8\"a\"", "LL 97:Int u9 98:Int xu8 Text"),
 ];
 
 // Directives (6.10).
-static DIRECTIVES: [(&[u8], &str); 34] = [
+static DIRECTIVES: [(&[u8], &str); 30] = [
     (b"#if 1", "directive at 0"),
     (b"#\nx", "x"),
     (b" # /* a */\nx", "x"),
@@ -64,10 +113,6 @@ static DIRECTIVES: [(&[u8], &str); 34] = [
     (b"#line 3 @\ny", "y"),
     (b"#line", "directive at 0"),
     (b"#line x\ny", "directive at 0"),
-    (b"#pragma x \\\ny", "no token at 10"),
-    (b"#if 1 \\\ny", "directive at 0"),
-    (b"#define N 1 \\\ny", "directive at 0"),
-    (b"// a \\ \ny;", "y Semicolon"),
     (
         b"#define N 99999999999999999999\nx",
         "constant too large at 10",
@@ -106,38 +151,39 @@ static REPLACED: [(&[u8], &str); 12] = [
     ),
 ];
 
-#[test]
-fn tokens(rt: HostRuntime) -> Result<(), Fail> {
-    for (text, wanted) in &TOKENS {
+/// Each text is shown so.
+fn are_shown(rt: &impl Abort, alloc: Global, rows: &[(&[u8], &str)]) -> Result<(), Fail> {
+    for (text, wanted) in rows {
         assert_eq!(rt;
-            shown(rt.alloc(), text, DataModel::Lp64)?.as_str(),
+            shown(alloc, text, DataModel::Lp64)?.as_str(),
             *wanted,
             "{text:?}"
         );
     }
     Ok(())
+}
+
+#[test]
+fn tokens(rt: HostRuntime) -> Result<(), Fail> {
+    are_shown(&rt, rt.alloc(), &TOKENS)
+}
+
+#[test]
+fn line_splices(rt: HostRuntime) -> Result<(), Fail> {
+    are_shown(&rt, rt.alloc(), &SPLICES)
+}
+
+#[test]
+fn encoding_prefixes(rt: HostRuntime) -> Result<(), Fail> {
+    are_shown(&rt, rt.alloc(), &PREFIXES)
 }
 
 #[test]
 fn directives(rt: HostRuntime) -> Result<(), Fail> {
-    for (text, wanted) in &DIRECTIVES {
-        assert_eq!(rt;
-            shown(rt.alloc(), text, DataModel::Lp64)?.as_str(),
-            *wanted,
-            "{text:?}"
-        );
-    }
-    Ok(())
+    are_shown(&rt, rt.alloc(), &DIRECTIVES)
 }
 
 #[test]
 fn replacements(rt: HostRuntime) -> Result<(), Fail> {
-    for (text, wanted) in &REPLACED {
-        assert_eq!(rt;
-            shown(rt.alloc(), text, DataModel::Lp64)?.as_str(),
-            *wanted,
-            "{text:?}"
-        );
-    }
-    Ok(())
+    are_shown(&rt, rt.alloc(), &REPLACED)
 }

@@ -1,5 +1,5 @@
 use crate::shown;
-use c_model::DataModel;
+use c_tokens::DataModel;
 use std::alloc::{AllocError, Global};
 use std::test::Fail;
 

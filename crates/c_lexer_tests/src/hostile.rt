@@ -1,5 +1,5 @@
 use c_lexer::{LexFault, MAX_BYTES, lex};
-use c_model::DataModel;
+use c_tokens::DataModel;
 use std::alloc::{AllocError, Global};
 use std::test::Fail;
 
@@ -35,13 +35,13 @@ enum Class {
     Digit,
     Mark,
     Hash,
-    /// It begins no token by itself.
+    /// It begins no token by itself, or is a carriage return, after which a newline has to stand.
     Nothing,
 }
 
 fn class_of(byte: u8) -> Class {
     match byte {
-        b' ' | b'\t' | b'\n' | b'\r' | 11 | 12 => Class::Blank,
+        b' ' | b'\t' | b'\n' | 11 | 12 => Class::Blank,
         b'a'..=b'z' | b'A'..=b'Z' | b'_' => Class::Letter,
         b'0'..=b'9' => Class::Digit,
         b'#' => Class::Hash,
@@ -60,9 +60,16 @@ fn alone(byte: u8) -> Answer {
     }
 }
 
+/// An encoding prefix of one byte before a quote (6.4.4.4, 6.4.5).
+fn is_prefixed(first: u8, second: u8) -> bool {
+    matches!(first, b'L' | b'u' | b'U') && matches!(second, b'\'' | b'"')
+}
+
 /// What two bytes are, where that follows from what each is alone.
 fn together(first: u8, second: u8) -> Option<Answer> {
     match (class_of(first), class_of(second)) {
+        (Class::Letter, Class::Nothing) if is_prefixed(first, second) => Some(Answer::NoToken(0)),
+        (Class::Nothing, _) if first == b'\r' && second == b'\n' => Some(Answer::Tokens(0)),
         (Class::Nothing, _) if first != b'"' || second != b'"' => Some(Answer::NoToken(0)),
         (Class::Nothing, _) => Some(Answer::Tokens(1)),
         (Class::Blank, _) if second == b'#' => Some(Answer::Tokens(0)),
@@ -163,7 +170,7 @@ fn long_constant(rt: HostRuntime) -> Result<(), Fail> {
 }
 
 /// A name of half a million letters, and a name that stands for it many times: as many copies of it as there is room
-/// for, and then want of memory. Without an end to them the 200,000 tokens that are read would take 100 GB.
+/// for, and then memory is out. Without an end to them the 200,000 tokens that are read would take 100 GB.
 #[test]
 fn long_name(rt: HostRuntime) -> Result<(), Fail> {
     for (uses, fits) in [(134, true), (250_000, false)] {

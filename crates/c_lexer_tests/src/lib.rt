@@ -13,7 +13,7 @@ mod headers;
 mod hostile;
 
 use c_lexer::{LexFault, MAX_BYTES, lex};
-use c_model::{DataModel, TokenKind};
+use c_tokens::{DataModel, TokenKind};
 use std::alloc::{AllocError, Global};
 
 /// A name as it stands, a constant as its value and type, and every other token as the word for it.

@@ -159,7 +159,7 @@ goes_on more (Next c) = more c
 goes_on more (Broken check line) = Broken check line
 goes_on more Ended = Ended
 
--- the answer after at most so many steps
+-- the answer after at most this many steps
 abbrev pub after : ℕ → Configuration → Answer
 after zero c = Next c
 after (suc n) c = goes_on (λ d. after n d) (step c)

@@ -6,7 +6,7 @@ ghost use Rattle.c_tree.specs.Nesting as spec;
 ghost use Rattle.c_tree.specs.Nesting.{IsFirstDeeper, measure};
 ghost use Rattle.c_tree.specs.SpellsText.{kinds_of};
 
-use c_model::{Token, TokenKind};
+use c_tokens::{Token, TokenKind};
 use kv_base::{NoMemory, Stack};
 use std::alloc::Global;
 

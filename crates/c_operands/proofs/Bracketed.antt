@@ -1,17 +1,17 @@
 -- What an expression begins with, part by part.
 use Rattle.std.proofs.Common.{◌≡◌, ℕ, Bool, true, false, nat_le, List, Result, refl, sym, ap, subst, ◌∙◌}
-use Rattle.c_model.specs.declared.token.TokenKind.{TokenKind}
+use Rattle.c_tokens.specs.declared.token.TokenKind.{TokenKind}
 use Rattle.c_tree.specs.declared.expression.Expression.{Expression}
 use Rattle.c_tree.specs.declared.expression.Expression.TheVariants as tree
 use Rattle.c_tree.specs.Places.{Place, next}
-use Rattle.c_marks.specs.declared.fault.Fault.{Fault}
+use Rattle.c_cursor.specs.declared.fault.Fault.{Fault}
 use Rattle.c_grammar.specs.Kinds.{kind_at, suffix, Prefix, Opens, prefix, begins_type}
 use Rattle.c_grammar.specs.Reader.{Outcome, Gives, Refuses, and_then, where_round, bracketed, sized, sized_by}
 use Rattle.c_grammar.specs.Readers.{read, more, types}
-use Rattle.c_marks.specs.Reads.{Reads}
+use Rattle.c_cursor.specs.Reads.{Reads}
 use Rattle.c_operands.specs.Operands.{grouped, cast, sized_type, sized_operand, opens_by, opens_type}
-use Rattle.c_marks.proofs.Lists.{then_both}
-use Rattle.c_marks.proofs.Single.{round_both}
+use Rattle.c_cursor.proofs.Lists.{then_both}
+use Rattle.c_cursor.proofs.Single.{round_both}
 
 closed_on : {A B : Type 0} (kinds : List TokenKind) (o : Outcome A) (f : A → Place → Outcome B)
     → and_then o (λ x q. where_round (suffix (kind_at kinds q)) (f x (next q))) ≡ and_then (and_then o (λ x q. where_round (suffix (kind_at kinds q)) (Gives x (next q)))) f

@@ -1,1 +1,3 @@
 pub mod Bracketed
+pub mod Gathered
+pub mod Suffixed

@@ -6,23 +6,22 @@ ghost use Rattle.c_tree.specs.SpellsText.{kinds_of};
 ghost use Rattle.c_grammar.specs.Kinds.{kind_at, prefix, prefix_of, begins_type, Names, Constants, Texts, StepsFirst, Operates};
 ghost use Rattle.c_grammar.specs.Reader as spec;
 ghost use Rattle.c_grammar.specs.Readers as readers;
-ghost use Rattle.c_marks.specs.Reads.{Reads};
-ghost use Rattle.c_marks.specs.Parts.{ReadsExpressions, ReadsPart};
+ghost use Rattle.c_cursor.specs.Reads.{Reads};
+ghost use Rattle.c_cursor.specs.Parts.{ReadsExpressions, ReadsPart};
 ghost use Rattle.c_operands.specs.Operands.{operand, opens_type, closed_expression, closed_type, grouped, cast, sized_type, sized_operand};
 
+use crate::Suffixes;
 use c_boxes::{keeping, pair};
+use c_cursor::{Cursor, Fault, begins_type, close_round, is_start, refuse};
 use c_grammar::{CAST, POSTFIX, UNARY};
-use c_marks::{Fault, begins_type, close_round, is_start, refuse};
-use c_model::{Token, TokenKind};
-use c_scopes::Cursor;
-use c_suffixes::Suffixes;
+use c_tokens::{Token, TokenKind};
 use c_tree::{Expression, Step, TypeName, UnaryOperator};
 use kv_base::{Bytes, Copied};
 use kv_num::IntType;
 use sqlite_items::Boxed;
 use std::alloc::Global;
 
-/// Whether a `(` comes next and a type name behind it.
+/// Whether a `(` comes next and a type name after it.
 fn opens_type(tokens: &[Token], place: &Cursor) -> bool
     ensures value { result ≡ opens_type (kinds_of tokens.now) place.now }
     ensures within { IsTrue result → place.now.at < usize.MAX }
@@ -36,9 +35,9 @@ fn opens_type(tokens: &[Token], place: &Cursor) -> bool
 /// The rules of what an expression begins with, with what reads the expressions and the type names inside.
 #[derive(Clone, Copy)]
 pub struct Operands<'t, R, T> {
-    /// Reads what stands behind an operand.
+    /// Reads what follows an operand.
     pub suffixes: Suffixes<'t, R>,
-    /// Reads a type name in so many steps.
+    /// Reads a type name in at most a given number of steps.
     pub types: T,
 }
 
@@ -60,8 +59,8 @@ impl<'t, R, T: Fn(Global, &[Token], usize, &mut Cursor) -> Result<TypeName, Faul
         )
     }
 
-    /// A type name with the `)` behind it.
-    #[tactic(auto, using(c_marks::proofs::Single::round_then))]
+    /// A type name with the `)` after it.
+    #[tactic(auto, using(c_cursor::proofs::Single::round_then))]
     fn closed_type(&self, place: &mut Cursor) -> Result<TypeName, Fault>
         requires types { ReadsPart readers.types self.now.suffixes.depth (T.pre self.now.types) (T.post self.now.types) }
         ensures { Reads (closed_type (kinds_of self.now.suffixes.tokens.now) self.now.suffixes.depth place.old) result place.new }
@@ -77,8 +76,8 @@ impl<'t, R: Fn(Global, &[Token], usize, u8, &mut Cursor) -> Result<Expression, F
     R,
     T,
 > {
-    /// An expression with the `)` behind it.
-    #[tactic(auto, using(c_marks::proofs::Single::round_then))]
+    /// An expression with the `)` after it.
+    #[tactic(auto, using(c_cursor::proofs::Single::round_then))]
     fn closed_expression(&self, place: &mut Cursor) -> Result<Expression, Fault>
         requires expressions { ReadsExpressions self.now.suffixes.depth (R.pre self.now.suffixes.read) (R.post self.now.suffixes.read) }
         ensures { Reads (closed_expression (kinds_of self.now.suffixes.tokens.now) self.now.suffixes.depth place.old) result place.new }
@@ -182,7 +181,7 @@ impl<'t, R: Fn(Global, &[Token], usize, u8, &mut Cursor) -> Result<Expression, F
         )
     }
 
-    /// `( expression )`, behind the `(`.
+    /// `( expression )`, after the `(`.
     fn grouped(&self, least: u8, place: &mut Cursor) -> Result<Expression, Fault>
         requires expressions { ReadsExpressions self.now.suffixes.depth (R.pre self.now.suffixes.read) (R.post self.now.suffixes.read) }
         ensures { Reads (grouped (kinds_of self.now.suffixes.tokens.now) self.now.suffixes.depth least place.old) result place.new }
@@ -191,7 +190,7 @@ impl<'t, R: Fn(Global, &[Token], usize, u8, &mut Cursor) -> Result<Expression, F
         self.suffixes.more(POSTFIX, least, inner, place)
     }
 
-    /// `sizeof operand`, behind `sizeof`, which stands at `at`.
+    /// `sizeof operand`, after `sizeof`, which stands at `at`.
     fn sized_operand(&self, least: u8, at: usize, place: &mut Cursor) -> Result<Expression, Fault>
         requires expressions { ReadsExpressions self.now.suffixes.depth (R.pre self.now.suffixes.read) (R.post self.now.suffixes.read) }
         ensures { Reads (sized_operand (kinds_of self.now.suffixes.tokens.now) self.now.suffixes.depth least at place.old) result place.new }
@@ -214,7 +213,7 @@ impl<
     R: Fn(Global, &[Token], usize, u8, &mut Cursor) -> Result<Expression, Fault>,
     T: Fn(Global, &[Token], usize, &mut Cursor) -> Result<TypeName, Fault>,
 > Operands<'t, R, T> {
-    /// `( type-name ) operand`, behind the `(`, which stands at `at`.
+    /// `( type-name ) operand`, after the `(`, which stands at `at`.
     fn cast(&self, least: u8, at: usize, place: &mut Cursor) -> Result<Expression, Fault>
         requires expressions { ReadsExpressions self.now.suffixes.depth (R.pre self.now.suffixes.read) (R.post self.now.suffixes.read) }
         requires types { ReadsPart readers.types self.now.suffixes.depth (T.pre self.now.types) (T.post self.now.types) }
@@ -251,7 +250,7 @@ impl<
         self.cast(least, at, place)
     }
 
-    /// `sizeof ( type-name )`, behind the `(`; `sizeof` stands at `at`.
+    /// `sizeof ( type-name )`, after the `(`; `sizeof` stands at `at`.
     fn sized_type(&self, least: u8, at: usize, place: &mut Cursor) -> Result<Expression, Fault>
         requires expressions { ReadsExpressions self.now.suffixes.depth (R.pre self.now.suffixes.read) (R.post self.now.suffixes.read) }
         requires types { ReadsPart readers.types self.now.suffixes.depth (T.pre self.now.types) (T.post self.now.types) }

@@ -1,3 +1,4 @@
 pub mod ExternalEnds
+pub mod Knots
 pub mod Texts
 pub mod WholeTexts

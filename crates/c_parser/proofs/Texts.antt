@@ -1,20 +1,20 @@
 -- Texts, whose external declarations are read one by one.
 use Rattle.std.proofs.Common.{◌≡◌, List, [], ◌∷◌, ◌++◌, ℕ, zero, suc, ◌+◌, ◌-◌, ◌<◌, Option, Some, None, length, refl, ap, ◌∙◌, sym, arith}
 use Rattle.std.specs.Prelude.{Result, Ok, Err}
-use Rattle.c_model.specs.declared.token.Token.{Token}
-use Rattle.c_model.specs.declared.token.TokenKind.{TokenKind}
+use Rattle.c_tokens.specs.declared.token.Token.{Token}
+use Rattle.c_tokens.specs.declared.token.TokenKind.{TokenKind}
 use Rattle.c_tree.specs.SpellsText.{kinds_of, beginning}
 use Rattle.c_tree.specs.declared.declaration.External.{External}
 use Rattle.c_tree.specs.Places.{Place}
-use Rattle.c_marks.specs.declared.fault.Fault.{Fault}
-use Rattle.c_marks.specs.declared.fault.Fault.TheVariants.{Syntax, NoMemory}
+use Rattle.c_cursor.specs.declared.fault.Fault.{Fault}
+use Rattle.c_cursor.specs.declared.fault.Fault.TheVariants.{Syntax, NoMemory}
 use Rattle.c_grammar.specs.Kinds.{kind_at}
 use Rattle.c_grammar.specs.Reader.{Outcome, Gives, Refuses, and_then}
 use Rattle.c_grammar.specs.ReadTypes.{ListOf}
 use Rattle.c_grammar.specs.ReadText.{externals, externals_by, external, text}
-use Rattle.c_marks.specs.Reads.{Reads}
-use Rattle.c_grammar.proofs.Depths.{length-kinds_of}
-use Rattle.c_marks.proofs.Lists.{after, after_none, joined, append_none, one_further}
+use Rattle.c_cursor.specs.Reads.{Reads}
+use Rattle.c_nesting.proofs.Depths.{length-kinds_of}
+use Rattle.c_cursor.proofs.Lists.{after, after_none, joined, append_none, one_further}
 use Rattle.c_parser.specs.Parses.{ReadsText}
 
 externals_on : (kinds : List TokenKind) (depth n : ℕ) (p : Place) → externals kinds depth (suc n) p ≡ externals_by kinds depth (externals kinds depth n) p (kind_at kinds p)

@@ -1,11 +1,11 @@
 -- What the reader of texts gives is what a text spells, by the laws of the grammar.
 use Rattle.std.proofs.Common.{◌≡◌, ℕ, List, None, subst}
 use Rattle.std.specs.Prelude.{Result, Ok, Err}
-use Rattle.c_model.specs.declared.token.Token.{Token}
+use Rattle.c_tokens.specs.declared.token.Token.{Token}
 use Rattle.c_tree.specs.declared.declaration.External.{External}
 use Rattle.c_tree.specs.declared.declaration.Tree.{Tree}
 use Rattle.c_tree.specs.SpellsText.{kinds_of, Spells}
-use Rattle.c_grammar.specs.Laws.{ReadsWhatIsSpelled, RefusesTheRest}
+use Rattle.c_grammar_laws.specs.Laws.{ReadsWhatIsSpelled, RefusesTheRest}
 use Rattle.c_grammar.specs.Reader.{Refuses}
 use Rattle.c_grammar.specs.ReadText.{text}
 use Rattle.c_parser.specs.declared.parser.ParseFault.{ParseFault}

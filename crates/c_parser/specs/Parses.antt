@@ -1,13 +1,15 @@
 -- What the parser of whole texts ensures.
-use Rattle.std.specs.Prelude.{◌≡◌, ℕ, List, Option, None, Result, Ok, Err, position}
-use Rattle.c_model.specs.declared.token.Token.{Token}
+use Rattle.std.specs.Prelude.{◌≡◌, ℕ, List, Option, None, Result, Ok, Err, position, IsTrue}
+use Rattle.c_tokens.specs.declared.token.Token.{Token}
 use Rattle.c_tree.specs.declared.declaration.Tree.{Tree}
 use Rattle.c_tree.specs.Places.{Place}
 use Rattle.c_tree.specs.Nesting.{is_left_out, IsFirstDeeper}
 use Rattle.c_tree.specs.SpellsText.{kinds_of, Spells}
 use Rattle.c_grammar.specs.Reader.{Outcome, Gives, Refuses}
-use Rattle.c_marks.specs.declared.fault.Fault.{Fault}
-use Rattle.c_marks.specs.declared.fault.Fault.TheVariants as reading
+use Rattle.c_cursor.specs.declared.fault.Fault.{Fault}
+use Rattle.c_cursor.specs.declared.fault.Fault.TheVariants as reading
+use Rattle.c_nesting.specs.declared.depth.TheConstants.{MAX_DEPTH}
+use Rattle.c_nesting.specs.Depth.{tree_fits}
 use Rattle.c_nesting.specs.declared.nesting.TheConstants.{LIMIT}
 use Rattle.c_parser.specs.declared.parser.ParseFault.{ParseFault}
 use Rattle.c_parser.specs.declared.parser.ParseFault.TheVariants.{LeftOut, TooDeep, Syntax, NoMemory}
@@ -27,6 +29,10 @@ IsWithin tokens = (left_out tokens ≡ None) × IsFirstTooDeep tokens None
 -- the tokens are no translation unit
 abbrev pub SpellsNone : List Token → Type 0
 SpellsNone tokens = (tree : Tree) → Spells tokens tree → ⊥
+
+-- no more than this many expressions, specifiers, declarators, initialisers and statements lie in one another
+abbrev pub IsShallow : Tree → Type 0
+IsShallow tree = IsTrue (tree_fits tree MAX_DEPTH)
 
 -- the tree that the tokens spell, or none, unless memory is refused
 abbrev pub IsWhole : List Token → Result Tree ParseFault → Type 0

@@ -7,14 +7,12 @@ ghost use Rattle.c_grammar.specs.ReadText as spec;
 ghost use Rattle.c_grammar.specs.ReadStatements.{declaration, block, statement, names_with, initialiser};
 ghost use Rattle.c_grammar.specs.ReadStatements as statements;
 ghost use Rattle.c_grammar.specs.Reader.{and_then};
-ghost use Rattle.c_marks.specs.Reads.{Reads, specified_of, titled_of};
+ghost use Rattle.c_cursor.specs.Reads.{Reads, specified_of, titled_of};
 ghost use Rattle.c_parser.specs.Parses.{ReadsText};
 
-use c_declarations::{declarator, declared_after, further_names};
-use c_expressions::{Fault, Mark, Specified, Titled, grammar, mark_at, refuse, take};
-use c_model::Token;
-use c_scopes::{Block, Cursor};
-use c_statements::block_items;
+use crate::grammar::{block_items, declarator, declared_after, further_names, specifiers};
+use c_cursor::{Block, Cursor, Fault, Mark, Specified, Titled, mark_at, refuse, take};
+use c_tokens::Token;
 use c_tree::{Declaration, DeclaredNames, External, Externals, Specifier};
 use kv_base::Stack;
 use sqlite_items::Items;
@@ -57,7 +55,7 @@ fn defined(
     })
 }
 
-/// A declaration, behind its first declarator.
+/// A declaration, after its first declarator.
 fn external_declared(
     alloc: Global,
     tokens: &[Token],
@@ -82,7 +80,7 @@ fn external_declared(
     })
 }
 
-/// What stands behind the specifiers.
+/// What follows the specifiers.
 fn external_after(
     alloc: Global,
     tokens: &[Token],
@@ -107,7 +105,7 @@ fn external_after(
     external_named(alloc, tokens, depth, specified, titled, place)
 }
 
-/// What stands behind the first declarator.
+/// What follows the first declarator.
 fn external_named(
     alloc: Global,
     tokens: &[Token],
@@ -138,11 +136,11 @@ fn external(
         place.skip();
         return Ok(External::Empty { at });
     }
-    let specified = grammar::specifiers(alloc, tokens, depth, place)?;
+    let specified = specifiers(alloc, tokens, depth, place)?;
     external_after(alloc, tokens, depth, specified, place)
 }
 
-/// Up to so many external declarations, to the end of the text.
+/// Up to a given number of external declarations, to the end of the text.
 fn externals(
     alloc: Global,
     tokens: &[Token],
@@ -153,8 +151,7 @@ fn externals(
     ensures { Reads (spec.externals (kinds_of tokens.now) depth count place.old) result place.new }
 {
     let mut found = Externals::new(alloc);
-    for turn in 0..count {
-        let _ = turn;
+    for _turn in 0..count {
         if place.kind(tokens).is_none() {
             return Ok(found);
         }

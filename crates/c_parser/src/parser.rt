@@ -1,14 +1,14 @@
 //! The parser of whole texts.
 
-ghost use Rattle.std.specs.Prelude.{◌≡◌, ℕ, IfOk};
+ghost use Rattle.std.specs.Prelude.{◌≡◌, ◌≤◌, ℕ, IfOk, length};
 ghost use Rattle.c_tree.specs.SpellsText.{Spells};
-ghost use Rattle.c_parser.specs.Parses.{left_out, IsFirstTooDeep, IsWithin, SpellsNone, IsWhole};
+ghost use Rattle.c_parser.specs.Parses.{left_out, IsFirstTooDeep, IsWithin, SpellsNone, IsWhole, IsShallow};
 
 use crate::externals::text;
-use c_expressions::Fault;
-use c_grammar::laws::one_tree;
-use c_model::{Token, Tokens};
-use c_nesting::{first_left_out, first_too_deep};
+use c_cursor::Fault;
+use c_grammar_laws::laws::one_tree;
+use c_nesting::{MAX_DEPTH, first_left_out, first_too_deep, fits};
+use c_tokens::{Token, Tokens};
 use c_tree::Tree;
 use kv_base::NoMemory;
 use std::alloc::Global;
@@ -27,7 +27,7 @@ pub enum ParseFault {
     /// A token that can't stand there.
     #[error("syntax error at token {at}")]
     Syntax { at: usize },
-    /// Want of memory.
+    /// Out of memory, or deeper than `MAX_DEPTH`.
     #[error("out of memory")]
     NoMemory,
 }
@@ -42,8 +42,8 @@ impl From<NoMemory> for ParseFault {
     }
 }
 
-/// The tree of a text (C11 6.9). Where the tokens have no tree, `Syntax` names a token, which isn't promised to be the
-/// first fault.
+/// The tree of a text (C11 6.9). Where the tokens have no tree, `Syntax` names a token, or their end, which isn't
+/// promised to be the first fault.
 ///
 /// # Errors
 ///
@@ -53,6 +53,8 @@ pub fn parse(alloc: Global, tokens: &Tokens) -> Result<Tree, ParseFault>
     ensures left_out { (at : ℕ) → result ≡ Err (ParseFault.LeftOut at) → left_out tokens.now ≡ Some at }
     ensures too_deep { (at : ℕ) → result ≡ Err (ParseFault.TooDeep at) → (left_out tokens.now ≡ None) × IsFirstTooDeep tokens.now (Some at) }
     ensures syntax { (at : ℕ) → result ≡ Err (ParseFault.Syntax at) → IsWithin tokens.now × SpellsNone tokens.now }
+    ensures place { (at : ℕ) → result ≡ Err (ParseFault.Syntax at) → at ≤ length tokens.now }
+    ensures shallow { IfOk result IsShallow }
 {
     let tokens = tokens.as_slice();
     if let Some(at) = first_left_out(tokens) {
@@ -61,17 +63,44 @@ pub fn parse(alloc: Global, tokens: &Tokens) -> Result<Tree, ParseFault>
     if let Some(at) = first_too_deep(alloc, tokens)? {
         return Err(ParseFault::TooDeep { at });
     }
-    whole(alloc, tokens)
+    bounded(alloc, tokens)
 }
 
 /// The tree of a text, whatever it leaves out and however deep it is nested.
 fn whole(alloc: Global, tokens: &[Token]) -> Result<Tree, ParseFault>
     ensures { IsWhole tokens.now result }
 {
+    // The law says that what `text` reads is what the tokens spell.
     one_tree();
     match text(alloc, tokens) {
         Ok(externals) => Ok(Tree { externals }),
         Err(Fault::Syntax { at }) => Err(ParseFault::Syntax { at }),
         Err(Fault::NoMemory) => Err(ParseFault::NoMemory),
     }
+}
+
+/// The same, where the tree is no deeper than `MAX_DEPTH`.
+fn bounded(alloc: Global, tokens: &[Token]) -> Result<Tree, ParseFault>
+    ensures tree { IsWhole tokens.now result }
+    ensures place { (at : ℕ) → result ≡ Err (ParseFault.Syntax at) → at ≤ length tokens.now }
+    ensures shallow { IfOk result IsShallow }
+{
+    match whole(alloc, tokens) {
+        Ok(tree) => Ok(shallow(tree)?),
+        Err(ParseFault::Syntax { at }) => Err(ParseFault::Syntax {
+            at: at.min(tokens.len()),
+        }),
+        Err(fault) => Err(fault),
+    }
+}
+
+/// A tree that is no deeper than `MAX_DEPTH`.
+fn shallow(tree: Tree) -> Result<Tree, NoMemory>
+    ensures same { IfOk result (λ made. made ≡ tree) }
+    ensures shallow { IfOk result IsShallow }
+{
+    if !fits(&tree, MAX_DEPTH) {
+        return Err(NoMemory);
+    }
+    Ok(tree)
 }

@@ -2,6 +2,8 @@
 #![tactic(auto)]
 
 #[cfg(test)]
+mod cursor;
+#[cfg(test)]
 mod declarations;
 #[cfg(test)]
 mod expressions;
@@ -13,8 +15,8 @@ mod scopes;
 mod statements;
 
 use c_lexer::{LexFault, MAX_BYTES, lex};
-use c_model::{DataModel, Token};
 use c_parser::{ParseFault, parse};
+use c_tokens::{DataModel, Token};
 use c_tree::{BlockItem, External, Statement, Tree};
 use std::alloc::{AllocError, Global};
 
@@ -102,7 +104,7 @@ fn shown_tree(alloc: Global, tree: &Tree) -> Result<String, AllocError> {
 ///
 /// # Errors
 ///
-/// Want of memory.
+/// Out of memory, or a text whose tree is too deep.
 pub fn shown(alloc: Global, text: &[u8]) -> Result<String, AllocError> {
     if text.len() > MAX_BYTES {
         return String::from_str(alloc, "too long");
@@ -122,7 +124,7 @@ pub fn shown(alloc: Global, text: &[u8]) -> Result<String, AllocError> {
 ///
 /// # Errors
 ///
-/// Want of memory.
+/// Out of memory, or a text whose tree is too deep.
 pub fn answer(alloc: Global, text: &[u8]) -> Result<String, AllocError> {
     if text.len() > MAX_BYTES {
         return String::from_str(alloc, "too long");

@@ -40,7 +40,7 @@ fn left_out(rt: HostRuntime) -> Result<(), Fail> {
     Ok(())
 }
 
-/// A part so many times, another once, and a third so many times.
+/// A part a number of times, another once, and a third the same number of times.
 fn nested(
     alloc: Global,
     opening: &[u8],
@@ -67,7 +67,7 @@ fn framed(alloc: Global, head: &[u8], nested: &[u8], end: &[u8]) -> Result<Vec<u
     Ok(text)
 }
 
-// What is nested so many times: a head, what opens, what stands inside, what closes and an end, and the answer.
+// What is nested a number of times: a head, what opens, what stands inside, what closes and an end, and the answer.
 static DEPTHS: [(usize, [&[u8]; 5], &str); 12] = [
     (499, [b"", b"", b"", b")", b""], "syntax"),
     (500, [b"", b"", b"", b")", b""], "nested too deep at 499"),
@@ -141,6 +141,64 @@ fn chains(rt: HostRuntime) -> Result<(), Fail> {
         let inside = nested(rt.alloc(), b"", b"", part, 10_000)?;
         let text = framed(rt.alloc(), head, &inside, end)?;
         assert_eq!(rt; answer(rt.alloc(), &text)?.as_str(), "accepted", "{part:?}");
+    }
+    Ok(())
+}
+
+// What the count of nesting lets through and is nested deeper than a stack bears: a head, what opens 6,000 times, what
+// stands inside, what closes and an end.
+static DEEP: [[&[u8]; 5]; 4] = [
+    [b"int main(void){a=", b"a?a,", b"a?a:a", b",a:a", b";}"],
+    [
+        b"int main(void){",
+        b"if(a);else if(a)while(a)",
+        b";",
+        b"",
+        b"}",
+    ],
+    [b"int x=", b"a?a,", b"a?a:a", b",a:a", b";"],
+    [
+        b"int main(void){",
+        b"if(a);else if(a)for(;;)",
+        b";",
+        b"",
+        b"}",
+    ],
+];
+
+#[test]
+fn deep_texts_are_out_of_memory(rt: HostRuntime) -> Result<(), Fail> {
+    for [head, opening, inner, closing, end] in &DEEP {
+        let inside = nested(rt.alloc(), opening, inner, closing, 6_000)?;
+        let text = framed(rt.alloc(), head, &inside, end)?;
+        assert!(rt; answer(rt.alloc(), &text).is_err(), "{opening:?}");
+    }
+    Ok(())
+}
+
+// What is nested this many times and ends with many operators after each bracket: a head, what opens, what stands inside,
+// what closes and an end, and whether it has a tree.
+static TALL: [(usize, [&[u8]; 5], bool); 4] = [
+    (
+        100,
+        [b"int main(void){", b"(", b"a", b"++ ++ ++)", b";}"],
+        true,
+    ),
+    (
+        300,
+        [b"int main(void){", b"(", b"a", b"++ ++ ++)", b";}"],
+        false,
+    ),
+    (100, [b"int ", b"(", b"a", b"[1][1])", b";"], true),
+    (200, [b"int ", b"(", b"a", b"[1][1][1][1])", b";"], false),
+];
+
+#[test]
+fn tall_trees_are_out_of_memory(rt: HostRuntime) -> Result<(), Fail> {
+    for (count, [head, opening, inner, closing, end], has_tree) in &TALL {
+        let inside = nested(rt.alloc(), opening, inner, closing, *count)?;
+        let text = framed(rt.alloc(), head, &inside, end)?;
+        assert_eq!(rt; answer(rt.alloc(), &text).is_ok(), *has_tree, "{closing:?}");
     }
     Ok(())
 }

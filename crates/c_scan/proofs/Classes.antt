@@ -2,7 +2,7 @@
 use Rattle.std.proofs.Common.{◌≡◌, ℕ, zero, suc, ◌+◌, ◌-◌, ◌<◌, ◌≤◌, Bool, true, false, not, ◌&&◌, ◌||◌, nat_eq, cond, List, [], ◌∷◌, length, take, Option, Some, None, arith, refl, sym, ap, ◌∙◌, ◌⊎◌, inl, inr, length-take-le}
 use Rattle.std.specs.Option.{option_map}
 use Rattle.std.proofs.lemmas.Bool.Decides.{nat_tests}
-use Rattle.c_model.specs.Pieces.{Shape, Space, Word, Number, Character, Quoted, Piece, shape_of, only_where, longest, first_piece, is_run, run_size, is_quoted, is_space, is_nondigit, is_digit, begins_number, begins_digit, in_word, in_number, character_shape, character_value, without_last, has_doubtful_quote}
+use Rattle.c_tokens.specs.Pieces.{Shape, Space, Word, Number, Character, Quoted, Piece, shape_of, only_where, longest, longest_piece, is_run, run_size, is_quoted, is_space, is_nondigit, is_digit, begins_number, begins_digit, in_word, in_number, character_shape, character_value, without_last, has_doubtful_quote}
 use Rattle.c_scan.specs.Fronts.{piece, quoted_from, character_front, string_front}
 use Rattle.c_scan.proofs.Fronts.{longest_found, longest_none, run_within, run_beyond, run_size-within, quoted_only, quoted_found, IsEnd}
 
@@ -26,8 +26,8 @@ pub none_tail : (low c : ℕ) (rest : List ℕ) → ((k : ℕ) → low ≤ k →
 none_tail low c rest none = longest_none low (suc (length rest)) (c ∷ rest) (λ m more less. none_more low m c rest none more less)
 
 -- a text that doesn't begin with `/` opens no comment
-plain_front : (c : ℕ) (rest : List ℕ) → nat_eq 47 c ≡ false → first_piece (c ∷ rest) ≡ longest 0 (suc (length rest)) (c ∷ rest)
-unfolding first_piece
+plain_front : (c : ℕ) (rest : List ℕ) → nat_eq 47 c ≡ false → longest_piece (c ∷ rest) ≡ longest 0 (suc (length rest)) (c ∷ rest)
+unfolding longest_piece
 plain_front c rest slash = rw slash
 
 -- ---- white space
@@ -38,7 +38,7 @@ space_longer zero c rest h more within = absurd (omega arith)
 space_longer (suc k) c [] h more within = absurd (omega arith)
 space_longer (suc k) c (d ∷ ds) h more within = rw h
 
-pub space_front : (c : ℕ) (rest : List ℕ) → is_space c ≡ true → first_piece (c ∷ rest) ≡ Some (piece 1 Space)
+pub space_front : (c : ℕ) (rest : List ℕ) → is_space c ≡ true → longest_piece (c ∷ rest) ≡ Some (piece 1 Space)
 unfolding shape_of
 space_front c rest h =
     plain_front c rest (grind (arith, nat_tests))
@@ -50,7 +50,7 @@ word_shape : (c : ℕ) (text : List ℕ) → is_space c ≡ false → is_nondigi
 unfolding shape_of
 word_shape c text space h = rw (space, h)
 
-pub word_front : (c : ℕ) (rest : List ℕ) → is_space c ≡ false → is_nondigit c ≡ true → first_piece (c ∷ rest) ≡ Some (piece (run_size in_word c rest + 1) Word)
+pub word_front : (c : ℕ) (rest : List ℕ) → is_space c ≡ false → is_nondigit c ≡ true → longest_piece (c ∷ rest) ≡ Some (piece (run_size in_word c rest + 1) Word)
 word_front c rest space h =
     let size = run_size in_word c rest in
     let within = run_size-within in_word c rest in
@@ -87,7 +87,7 @@ still_number c (suc k) [] h within = h
 still_number c zero (d ∷ ds) h within = dot_alone (is_digit c) (nat_eq c 46) (is_digit d) (in_number c d) (run_size in_number d ds) (digit_goes_on c d) h within
 still_number c (suc k) (d ∷ ds) h within = h
 
-pub number_front : (c : ℕ) (rest : List ℕ) → is_space c ≡ false → is_nondigit c ≡ false → begins_number (c ∷ rest) ≡ true → first_piece (c ∷ rest) ≡ Some (piece (run_size in_number c rest + 1) Number)
+pub number_front : (c : ℕ) (rest : List ℕ) → is_space c ≡ false → is_nondigit c ≡ false → begins_number (c ∷ rest) ≡ true → longest_piece (c ∷ rest) ≡ Some (piece (run_size in_number c rest + 1) Number)
 number_front c rest space word h =
     let size = run_size in_number c rest in
     let within = run_size-within in_number c rest in
@@ -157,7 +157,7 @@ other_character : (size k : ℕ) (rest : List ℕ) → k ≤ length rest → quo
 other_character size k rest within e apart = character_shape_of (take k rest) ∙ ap (character_or_none (take k rest)) (other_front 39 size k rest within e apart)
 
 character_case : (size : ℕ) (rest : List ℕ) (v : Option ℕ) → quoted_from 0 39 false rest ≡ Some size → character_value (take (size - 1) rest) ≡ v
-    → first_piece (39 ∷ rest) ≡ option_map (λ value. piece (size + 1) (Character value)) v
+    → longest_piece (39 ∷ rest) ≡ option_map (λ value. piece (size + 1) (Character value)) v
 character_case size rest None e value = plain_front 39 rest refl ∙ none_tail 0 39 rest (λ k above within.
     elim (equal_or_not k size) [
       | inl same ↦ rw same (character_value_shape size rest e ∙ ap (option_map Character) value)
@@ -169,10 +169,10 @@ character_case size rest (Some v) e value =
     (character_value_shape size rest e ∙ ap (option_map Character) value)
     (λ k more within. other_character size k rest within e (λ same. omega arith))
 
-pub character_lem : (rest : List ℕ) → first_piece (39 ∷ rest) ≡ character_front rest
+pub character_lem : (rest : List ℕ) → longest_piece (39 ∷ rest) ≡ character_front rest
 character_lem rest = by_end (quoted_from 0 39 false rest) refl
   where
-    by_end : (q : Option ℕ) → quoted_from 0 39 false rest ≡ q → first_piece (39 ∷ rest) ≡ (elim q as (λ _. Option Piece) [ Some size ↦ option_map (λ value. piece (size + 1) (Character value)) (character_value (take (size - 1) rest)) | None ↦ None ])
+    by_end : (q : Option ℕ) → quoted_from 0 39 false rest ≡ q → longest_piece (39 ∷ rest) ≡ (elim q as (λ _. Option Piece) [ Some size ↦ option_map (λ value. piece (size + 1) (Character value)) (character_value (take (size - 1) rest)) | None ↦ None ])
     by_end None e = plain_front 39 rest refl ∙ none_tail 0 39 rest (λ k above within. character_shape_of (take k rest) ∙ ap (character_or_none (take k rest)) (no_front 39 k rest within e))
     by_end (Some size) e = character_case size rest (character_value (take (size - 1) rest)) e refl
 
@@ -187,7 +187,7 @@ string_shape size rest doubtful e d =
     string_shape_of (take size rest) ∙ ap (λ b. only_where (b && not (has_doubtful_quote (take size rest))) Quoted) f.front ∙ ap (λ b. only_where (not b) Quoted) d
 
 string_case : (size : ℕ) (rest : List ℕ) (doubtful : Bool) → quoted_from 0 34 false rest ≡ Some size → has_doubtful_quote (take size rest) ≡ doubtful
-    → first_piece (34 ∷ rest) ≡ cond doubtful None (Some (piece (size + 1) Quoted))
+    → longest_piece (34 ∷ rest) ≡ cond doubtful None (Some (piece (size + 1) Quoted))
 string_case size rest true e d = plain_front 34 rest refl ∙ none_tail 0 34 rest (λ k above within.
     elim (equal_or_not k size) [
       | inl same ↦ rw same (string_shape size rest true e d)
@@ -199,9 +199,9 @@ string_case size rest false e d =
     (string_shape size rest false e d)
     (λ k more within. other_string k rest (other_front 34 size k rest within e (λ same. omega arith)))
 
-pub string_lem : (rest : List ℕ) → first_piece (34 ∷ rest) ≡ string_front rest
+pub string_lem : (rest : List ℕ) → longest_piece (34 ∷ rest) ≡ string_front rest
 string_lem rest = by_end (quoted_from 0 34 false rest) refl
   where
-    by_end : (q : Option ℕ) → quoted_from 0 34 false rest ≡ q → first_piece (34 ∷ rest) ≡ (elim q as (λ _. Option Piece) [ Some size ↦ cond (has_doubtful_quote (take size rest)) None (Some (piece (size + 1) Quoted)) | None ↦ None ])
+    by_end : (q : Option ℕ) → quoted_from 0 34 false rest ≡ q → longest_piece (34 ∷ rest) ≡ (elim q as (λ _. Option Piece) [ Some size ↦ cond (has_doubtful_quote (take size rest)) None (Some (piece (size + 1) Quoted)) | None ↦ None ])
     by_end None e = plain_front 34 rest refl ∙ none_tail 0 34 rest (λ k above within. other_string k rest (no_front 34 k rest within e))
     by_end (Some size) e = string_case size rest (has_doubtful_quote (take size rest)) e refl

@@ -1,7 +1,7 @@
 -- Numbers that digits write only grow with each digit.
 use Rattle.std.proofs.Common.{◌≡◌, ℕ, zero, suc, ◌+◌, ◌*◌, ◌<◌, ◌≤◌, List, [], ◌∷◌, length, take, get_or, fold, arith, refl}
 use Rattle.std.proofs.Math.Nat.{mul-le-mul_left}
-use Rattle.c_model.specs.Pieces.{digit_value, written}
+use Rattle.c_tokens.specs.Pieces.{digit_value, written}
 
 abbrev step : ℕ → ℕ → ℕ → ℕ
 step base value c = value * base + digit_value c

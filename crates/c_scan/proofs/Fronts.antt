@@ -2,7 +2,7 @@
 use Rattle.std.proofs.Common.{◌≡◌, ℕ, zero, suc, ◌+◌, ◌<◌, ◌≤◌, Bool, true, false, not, ◌&&◌, nat_eq, nat_lt, cond, List, [], ◌∷◌, length, take, Option, Some, None, arith, refl, sym, ap, ◌∙◌, ◌⊎◌, inl, inr}
 use Rattle.std.proofs.lemmas.Bool.{false≢true, eqb-true}
 use Rattle.std.proofs.lemmas.Bool.Decides.{nat_tests}
-use Rattle.c_model.specs.Pieces.{Shape, shape_of, longest, is_run, run_size, is_quoted, is_block, is_empty}
+use Rattle.c_tokens.specs.Pieces.{Shape, shape_of, longest, is_run, run_size, is_quoted, is_block, is_empty}
 use Rattle.c_scan.specs.Fronts.{piece, quoted_from, block_from}
 
 -- ---- the longest front

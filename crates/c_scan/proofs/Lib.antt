@@ -5,3 +5,4 @@ pub mod Types
 pub mod Fronts
 pub mod Classes
 pub mod Marks
+pub mod Lookups

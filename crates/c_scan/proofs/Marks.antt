@@ -4,9 +4,9 @@ use Rattle.std.specs.List.{list_all}
 use Rattle.std.specs.Option.{option_map}
 use Rattle.std.specs.Str.{bytes_eq}
 use Rattle.std.proofs.lemmas.Bool.{false≢true, leb-true, le-leb}
-use Rattle.c_model.specs.declared.token.TokenKind.{TokenKind}
-use Rattle.c_model.specs.Words.{lookup, punctuators}
-use Rattle.c_model.specs.Pieces.{Shape, Space, Mark, Piece, shape_of, only_where, longest, first_piece, is_run, run_size, is_block, is_space, is_nondigit, is_digit, begins_number, begins_digit, begins_with, in_line}
+use Rattle.c_tokens.specs.declared.token.TokenKind.{TokenKind}
+use Rattle.c_tokens.specs.Words.{lookup, punctuators}
+use Rattle.c_tokens.specs.Pieces.{Shape, Space, Mark, Piece, shape_of, only_where, longest, longest_piece, is_run, run_size, is_block, is_space, is_nondigit, is_digit, begins_number, begins_digit, begins_with, in_line}
 use Rattle.c_scan.specs.Fronts.{piece, block_from, block_front, mark_or, mark_front}
 use Rattle.c_scan.proofs.Fronts.{run_within, run_beyond, run_size-within, block_only, block_found}
 use Rattle.c_scan.proofs.Classes.{found_tail, none_tail, front_of_end, false_from}
@@ -17,15 +17,15 @@ line_shape : (text : List ℕ) → shape_of (47 ∷ 47 ∷ text) ≡ only_where 
 unfolding shape_of
 line_shape text = refl
 
-line_front_is : (rest : List ℕ) → first_piece (47 ∷ 47 ∷ rest) ≡ longest 0 (suc (suc (length rest))) (47 ∷ 47 ∷ rest)
-unfolding first_piece
+line_front_is : (rest : List ℕ) → longest_piece (47 ∷ 47 ∷ rest) ≡ longest 0 (suc (suc (length rest))) (47 ∷ 47 ∷ rest)
+unfolding longest_piece
 line_front_is rest = refl
 
 line_longer : (size k : ℕ) (rest : List ℕ) → size ≡ run_size in_line 47 rest → size + 1 < k → k ≤ suc (length rest) → shape_of (47 ∷ take k (47 ∷ rest)) ≡ None
 line_longer size zero rest is more less = absurd (omega arith)
 line_longer size (suc k) rest is more less = line_shape (take k rest) ∙ ap (λ b. only_where b Space) (run_beyond in_line 47 k rest (omega arith) (omega arith))
 
-pub line_lem : (rest : List ℕ) → first_piece (47 ∷ 47 ∷ rest) ≡ Some (piece (run_size in_line 47 rest + 2) Space)
+pub line_lem : (rest : List ℕ) → longest_piece (47 ∷ 47 ∷ rest) ≡ Some (piece (run_size in_line 47 rest + 2) Space)
 line_lem rest =
     let size = run_size in_line 47 rest in
     let within = run_size-within in_line 47 rest in
@@ -41,8 +41,8 @@ block_shape : (text : List ℕ) → shape_of (47 ∷ 42 ∷ text) ≡ only_where
 unfolding shape_of
 block_shape text = refl
 
-block_front_is : (rest : List ℕ) → first_piece (47 ∷ 42 ∷ rest) ≡ longest 1 (suc (suc (length rest))) (47 ∷ 42 ∷ rest)
-unfolding first_piece
+block_front_is : (rest : List ℕ) → longest_piece (47 ∷ 42 ∷ rest) ≡ longest 1 (suc (suc (length rest))) (47 ∷ 42 ∷ rest)
+unfolding longest_piece
 block_front_is rest = refl
 
 other_block : (k : ℕ) (rest : List ℕ) (q : Option ℕ) → k ≤ suc (length rest) → 1 ≤ k → block_from 0 rest ≡ q → (q ≡ Some (k - 1) → ⊥) → shape_of (47 ∷ take k (42 ∷ rest)) ≡ None
@@ -51,10 +51,10 @@ other_block (suc k) rest q within some e apart =
     block_shape (take k rest) ∙ ap (λ b. only_where b Space)
     (false_from _ (λ closed. apart (sym e ∙ block_only 0 k rest (omega arith) closed ∙ ap Some (omega arith))))
 
-pub block_lem : (rest : List ℕ) → first_piece (47 ∷ 42 ∷ rest) ≡ block_front rest
+pub block_lem : (rest : List ℕ) → longest_piece (47 ∷ 42 ∷ rest) ≡ block_front rest
 block_lem rest = by_end (block_from 0 rest) refl
   where
-    by_end : (q : Option ℕ) → block_from 0 rest ≡ q → first_piece (47 ∷ 42 ∷ rest) ≡ option_map (λ size. piece (size + 2) Space) q
+    by_end : (q : Option ℕ) → block_from 0 rest ≡ q → longest_piece (47 ∷ 42 ∷ rest) ≡ option_map (λ size. piece (size + 2) Space) q
     by_end None e = block_front_is rest ∙ none_tail 1 47 (42 ∷ rest) (λ k above within. other_block k rest None within above e (λ same. let never : ⊥ = cc in never))
     by_end (Some size) e =
         let f = front_of_end is_block size rest (block_found 0 size rest e) in
@@ -138,8 +138,8 @@ longest_skip (suc n) c rest m within =
     (lookup_long punctuators (c ∷ take (suc (suc (suc n))) rest) short_punctuators (let e = length-take-le (suc (suc (suc n))) rest within in omega arith))
     ∙ longest_skip n c rest m (omega arith)
 
-mark_first : (c : ℕ) (rest : List ℕ) → IsMark c rest → first_piece (c ∷ rest) ≡ longest 0 (suc (length rest)) (c ∷ rest)
-unfolding first_piece
+mark_first : (c : ℕ) (rest : List ℕ) → IsMark c rest → longest_piece (c ∷ rest) ≡ longest 0 (suc (length rest)) (c ∷ rest)
+unfolding longest_piece
 mark_first c rest m = rw m.block
 
 longest_zero : (text : List ℕ) → longest 0 0 text ≡ None
@@ -156,7 +156,7 @@ longest_marks c rest m =
 mark_or_is : (size : ℕ) (shorter : Option Piece) (text : List ℕ) → size ≤ length text → mark_or size shorter text ≡ at_size text size shorter
 mark_or_is size shorter text within = let e : nat_le size (length text) ≡ true = le-leb size (length text) within in rw e
 
-pub mark_lem : (c : ℕ) (rest : List ℕ) → IsMark c rest → first_piece (c ∷ rest) ≡ mark_front (c ∷ rest)
+pub mark_lem : (c : ℕ) (rest : List ℕ) → IsMark c rest → longest_piece (c ∷ rest) ≡ mark_front (c ∷ rest)
 mark_lem c [] m = mark_first c [] m ∙ mark_longest 0 c [] m ∙ ap (at_size (c ∷ []) 1) (longest_zero (c ∷ []))
 mark_lem c (d ∷ []) m =
     mark_first c (d ∷ []) m ∙ mark_longest 1 c (d ∷ []) m
@@ -167,7 +167,7 @@ mark_lem c (d ∷ e ∷ es) m =
     ∙ sym (mark_or_is 3 (mark_or 2 (mark_or 1 None text) text) text (omega arith)
     ∙ ap (at_size text 3) (mark_or_is 2 (mark_or 1 None text) text (omega arith) ∙ ap (at_size text 2) (mark_or_is 1 None text (omega arith))))
 
-pub empty_lem : (text : List ℕ) → length text < 1 → first_piece text ≡ None
-unfolding first_piece longest
+pub empty_lem : (text : List ℕ) → length text < 1 → longest_piece text ≡ None
+unfolding longest_piece longest
 empty_lem [] h = refl
 empty_lem (c ∷ cs) h = absurd (omega arith)

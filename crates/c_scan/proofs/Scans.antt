@@ -2,7 +2,7 @@
 use Rattle.std.proofs.Common.{◌≡◌, ℕ, zero, suc, ◌+◌, ◌<◌, Bool, false, ◌||◌, nat_eq, cond, List, [], ◌∷◌, length, take, drop, ◌-◌, Option, Some, arith, refl, sym, ap, ◌∙◌, codes, add-one}
 use Rattle.std.specs.List.{starts_with}
 use Rattle.std.proofs.lemmas.Slice.{between_to_end}
-use Rattle.c_model.specs.Pieces.{has_doubtful_quote}
+use Rattle.c_tokens.specs.Pieces.{has_doubtful_quote}
 use Rattle.c_scan.specs.Fronts.{block_from}
 
 starts_later : (i : ℕ) (text pattern : List ℕ) → false ≡ starts_with nat_eq (take (length text - i) (drop i text)) pattern → starts_with nat_eq (drop i text) pattern ≡ false

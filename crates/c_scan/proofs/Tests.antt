@@ -3,7 +3,7 @@ use Rattle.std.proofs.Common.{◌≡◌, ℕ, Bool, true, false, ◌&&◌, nat_e
 use Rattle.std.specs.List.{starts_with, between}
 use Rattle.std.proofs.lemmas.Bool.{false≢true, eqb-true}
 use Rattle.std.proofs.lemmas.Slice.{between_to_end}
-use Rattle.c_model.specs.Pieces.{Piece as SpecPiece}
+use Rattle.c_tokens.specs.Pieces.{Piece as SpecPiece}
 use Rattle.c_scan.specs.Fronts.{or_else}
 
 and_left : (a b : Bool) → (a && b) ≡ true → a ≡ true

@@ -4,7 +4,7 @@ use Rattle.std.proofs.lemmas.Bool.Decides.{nat_tests}
 use Rattle.kv_num.specs.declared.types.IntType.{IntType}
 use Rattle.kv_num.specs.declared.types.IntType.TheVariants as kinds
 use Rattle.kv_num.specs.IntType.{size_of, below_of}
-use Rattle.c_model.specs.Constants.{first_for}
+use Rattle.c_tokens.specs.Constants.{first_for}
 
 bounded : (t : IntType) → size_of t - below_of t ≤ 18446744073709551616
 bounded kinds.Bool = lit≤ tt

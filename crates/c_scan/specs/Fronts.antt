@@ -2,8 +2,8 @@
 use Rattle.std.specs.Prelude.{ℕ, ◌+◌, ◌-◌, Bool, false, not, ◌&&◌, ◌==◌, nat_eq, nat_le, List, [], ◌∷◌, length, take, Option, Some, None, if◌then◌else◌, codes}
 use Rattle.std.specs.List.{starts_with}
 use Rattle.std.specs.Option.{option_map}
-use Rattle.c_model.specs.Words.{lookup, punctuators}
-use Rattle.c_model.specs.Pieces.{Shape as SpecShape, Space, Word, Number, Character, Quoted, Mark, Piece as SpecPiece, character_value, has_doubtful_quote}
+use Rattle.c_tokens.specs.Words.{lookup, punctuators}
+use Rattle.c_tokens.specs.Pieces.{Shape as SpecShape, Space, Word, Number, Character, Quoted, Mark, Piece as SpecPiece, character_value, has_doubtful_quote}
 use Rattle.c_scan.specs.declared.pieces.Shape.{Shape}
 use Rattle.c_scan.specs.declared.pieces.Shape.TheVariants as shapes
 use Rattle.c_scan.specs.declared.pieces.Piece.{Piece}

@@ -2,8 +2,8 @@
 use Rattle.std.specs.Prelude.{ℕ, Bool, ◌||◌, ◌==◌, List, [], ◌∷◌, map, if◌then◌else◌}
 use Rattle.kv_num.specs.declared.types.IntType.{IntType}
 use Rattle.kv_num.specs.declared.types.IntType.TheVariants.{Int, UInt, LongLong, ULongLong}
-use Rattle.c_model.specs.declared.data_model.DataModel.{DataModel}
-use Rattle.c_model.specs.Constants.{Suffix as SpecSuffix, Least as SpecLeast, FromInt, FromLong, FromLongLong, Number as SpecNumber, Whole, TooLarge, Floating, NoConstant, long_of, unsigned_long_of, skipped, is_hexadecimal}
+use Rattle.c_tokens.specs.declared.data_model.DataModel.{DataModel}
+use Rattle.c_tokens.specs.Constants.{Suffix as SpecSuffix, Least as SpecLeast, FromInt, FromLong, FromLongLong, Number as SpecNumber, Whole, TooLarge, Floating, NoConstant, long_of, unsigned_long_of, skipped, is_hexadecimal}
 use Rattle.std.specs.List.{list_any}
 use Rattle.c_scan.specs.declared.constants.Least.{Least}
 use Rattle.c_scan.specs.declared.constants.Least.TheVariants as leasts

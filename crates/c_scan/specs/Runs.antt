@@ -1,7 +1,7 @@
 -- The runs of the code as those of the definition.
 use Rattle.std.specs.Prelude.{ℕ, Bool, ◌==◌, ◌||◌, nat_lt}
-use Rattle.c_model.specs.Pieces.{in_word, in_number, in_line, digit_value}
-use Rattle.c_model.specs.Directives.{in_space, in_spelling}
+use Rattle.c_tokens.specs.Pieces.{in_word, in_number, in_line, in_blanks, digit_value}
+use Rattle.c_tokens.specs.Directives.{in_space, in_spelling}
 use Rattle.c_scan.specs.declared.bytes.Run.{Run}
 use Rattle.c_scan.specs.declared.bytes.Run.TheVariants as runs
 
@@ -10,6 +10,7 @@ goes_on runs.Word = in_word
 goes_on runs.Number = in_number
 goes_on runs.Line = in_line
 goes_on runs.Space = in_space
+goes_on runs.Blanks = in_blanks
 goes_on runs.Spelling = in_spelling
 goes_on (runs.Digits base) = λ before c. nat_lt (digit_value c) base
 

@@ -1,6 +1,6 @@
 ghost use Rattle.std.specs.Prelude.{◌≡◌, ◌≤◌, ◌^◌, ◌<◌, length, SomeIff};
-ghost use Rattle.c_model.specs.Pieces.{are_digits, is_space, is_digit, is_nondigit, is_word_byte, digit_value, written, begins_name, begins_digit, begins_number, run_size};
-ghost use Rattle.c_model.specs.Directives.{is_blank};
+ghost use Rattle.c_tokens.specs.Pieces.{are_digits, is_space, is_digit, is_nondigit, is_word_byte, digit_value, written, begins_name, begins_digit, begins_number, run_size};
+ghost use Rattle.c_tokens.specs.Directives.{is_blank};
 ghost use Rattle.c_scan.specs.Runs.{goes_on, is_sign, is_exponent};
 
 /// White space (C11 6.4p3).
@@ -10,6 +10,7 @@ pub(crate) fn is_space(c: u8) -> bool
     c == b' ' || (9 <= c && c <= 13)
 }
 
+/// A digit (6.4.2.1).
 pub(crate) fn is_digit(c: u8) -> bool
     ensures { result ≡ is_digit c }
 {
@@ -23,6 +24,7 @@ pub(crate) fn is_nondigit(c: u8) -> bool
     (b'A' <= c && c <= b'Z') || (b'a' <= c && c <= b'z') || c == b'_'
 }
 
+/// A letter, an underscore or a digit.
 pub(crate) fn is_word_byte(c: u8) -> bool
     ensures { result ≡ is_word_byte c }
 {
@@ -45,6 +47,7 @@ pub(crate) fn digit_value(c: u8) -> u8
     }
 }
 
+/// Whether a name begins here.
 pub fn begins_name(text: &[u8]) -> bool
     ensures { result ≡ begins_name text.now }
 {
@@ -54,6 +57,7 @@ pub fn begins_name(text: &[u8]) -> bool
     }
 }
 
+/// Whether a digit stands at the front.
 pub fn begins_digit(text: &[u8]) -> bool
     ensures { result ≡ begins_digit text.now }
 {
@@ -84,6 +88,8 @@ pub enum Run {
     Line,
     /// White space.
     Space,
+    /// White space other than newlines, and bytes 0.
+    Blanks,
     /// All but white space.
     Spelling,
     /// Digits of a base of at most 16.
@@ -99,17 +105,20 @@ fn goes_on(run: Run, before: u8, c: u8) -> bool
         Run::Number => is_word_byte(c) || c == b'.' || (is_sign(c) && is_exponent(before)),
         Run::Line => c != b'\n',
         Run::Space => is_space(c),
+        Run::Blanks => (is_space(c) || c == 0) && c != b'\n',
         Run::Spelling => !is_space(c),
         Run::Digits { base } => digit_value(c) < base,
     }
 }
 
+/// `+` or `-`.
 fn is_sign(c: u8) -> bool
     ensures { result ≡ is_sign c }
 {
     c == b'+' || c == b'-'
 }
 
+/// The letter of an exponent.
 fn is_exponent(c: u8) -> bool
     ensures { result ≡ is_exponent c }
 {

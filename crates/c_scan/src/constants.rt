@@ -2,13 +2,13 @@ ghost use Rattle.std.specs.Prelude.{◌≡◌, ◌+◌, ◌-◌, ◌<◌, ◌^�
 ghost use Rattle.std.specs.List.{list_any};
 ghost use Rattle.std.specs.Option.{option_map};
 ghost use Rattle.kv_num.specs.IntType.{size_of, below_of};
-ghost use Rattle.c_model.specs.Words.{lookup};
-ghost use Rattle.c_model.specs.Pieces.{begins_with};
-ghost use Rattle.c_model.specs.Constants.{base_of, body_of, candidates, char_value, first_for, is_floating, is_hexadecimal, long_of, number_of, suffix_of, suffixes, value_of};
+ghost use Rattle.c_tokens.specs.Words.{lookup};
+ghost use Rattle.c_tokens.specs.Pieces.{begins_with};
+ghost use Rattle.c_tokens.specs.Constants.{base_of, body_of, candidates, char_value, first_for, is_floating, is_hexadecimal, long_of, number_of, suffix_of, suffixes, value_of};
 ghost use Rattle.c_scan.specs.Numbers.{column, has_exponent, number_view, skipped_of, suffix_rows, suffix_view};
 
 use crate::bytes::{Run, run_size, written};
-use c_model::DataModel;
+use c_tokens::DataModel;
 use kv_num::IntType;
 
 /// The narrowest type that a suffix leaves.
@@ -197,6 +197,7 @@ static SUFFIXES: [SuffixRow; 23] = [
     },
 ];
 
+/// The suffix of the first row with this text.
 fn find_suffix(table: &[SuffixRow], text: &[u8]) -> Option<Suffix>
     ensures { option_map suffix_view result ≡ lookup (suffix_rows table.now) text.now }
 {
@@ -208,12 +209,14 @@ fn find_suffix(table: &[SuffixRow], text: &[u8]) -> Option<Suffix>
     None
 }
 
+/// Whether the constant begins with `0x` or `0X`.
 fn is_hexadecimal(text: &[u8]) -> bool
     ensures { result ≡ is_hexadecimal text.now }
 {
     text.starts_with(b"0x") || text.starts_with(b"0X")
 }
 
+/// The base of an integer constant.
 fn base_of(text: &[u8]) -> u8
     ensures { result ≡ base_of text.now }
 {
@@ -226,6 +229,7 @@ fn base_of(text: &[u8]) -> u8
     }
 }
 
+/// The constant without `0x`.
 fn body_of(text: &[u8]) -> &[u8]
     ensures { result.now ≡ body_of text.now }
 {
@@ -237,7 +241,7 @@ fn body_of(text: &[u8]) -> &[u8]
 }
 
 /// The suffix of an integer constant, where the text has the form of one.
-#[tactic(auto, unfolding(c_model::specs::Constants::suffix_of, c_model::specs::Constants::suffixes))]
+#[tactic(auto, unfolding(c_tokens::specs::Constants::suffix_of, c_tokens::specs::Constants::suffixes))]
 pub fn suffix_of(text: &[u8]) -> Option<Suffix>
     ensures { option_map suffix_view result ≡ suffix_of text.now }
 {
@@ -251,7 +255,7 @@ pub fn suffix_of(text: &[u8]) -> Option<Suffix>
 }
 
 /// The value of an integer constant, where it is below 2 ^ 64.
-#[tactic(auto, unfolding(c_model::specs::Constants::value_of))]
+#[tactic(auto, unfolding(c_tokens::specs::Constants::value_of))]
 fn value_of(text: &[u8]) -> Option<u64>
     ensures { SomeIff result (value_of text.now < 2 ^ 64) (value_of text.now) }
 {
@@ -362,6 +366,7 @@ fn first_for(types: &[IntType], value: u64) -> Option<IntType>
     None
 }
 
+/// Whether the text has one of two bytes.
 fn has_either(text: &[u8], a: u8, b: u8) -> bool
     ensures { result ≡ list_any (λ c. c == a || c == b) text.now }
 {
@@ -378,12 +383,14 @@ fn has_exponent(text: &[u8]) -> bool
     has_either(text, b'E', b'e')
 }
 
+/// Whether the text has a dot.
 fn has_dot(text: &[u8]) -> bool
     ensures { result ≡ list_any (λ c. c == 46) text.now }
 {
     text.iter().any(|c| *c == b'.')
 }
 
+/// Whether the number has the form of a floating constant.
 fn is_floating(text: &[u8]) -> bool
     ensures { result ≡ is_floating text.now }
 {
@@ -403,8 +410,8 @@ pub enum Number {
     NoConstant,
 }
 
-#[tactic(auto, using(crate::proofs::Types::too_large), unfolding(c_model::specs::Constants::number_of))]
 /// The number that a text of digits, letters, dots and signs is (6.4.4).
+#[tactic(auto, using(crate::proofs::Types::too_large), unfolding(c_tokens::specs::Constants::number_of))]
 pub fn number_of(model: DataModel, text: &[u8]) -> Number
     ensures { number_view result ≡ number_of model text.now }
 {

@@ -10,4 +10,4 @@ mod words;
 pub use bytes::{Run, begins_digit, begins_name, begins_number, is_blank, run_size};
 pub use constants::{Least, Number, Suffix, char_value, number_of, suffix_of};
 pub use pieces::{Piece, Shape, first_piece};
-pub use words::{Row, Vocabulary, find};
+pub use words::{Row, Vocabulary, Words, find};

@@ -1,18 +1,18 @@
 ghost use Rattle.std.specs.Prelude.{◌≡◌, ◌<◌, ◌≤◌, ◌+◌, ◌∷◌, true, false, length, Some, IfOk, IfSome, List, ℕ};
 ghost use Rattle.std.specs.Option.{option_map};
-ghost use Rattle.c_model.specs.Words.{lookup, punctuators};
-ghost use Rattle.c_model.specs.Pieces.{are_digits, below_256, character_value, first_piece, has_doubtful_quote, numeric_escape, run_size, simple_escapes, written};
+ghost use Rattle.c_tokens.specs.Words.{lookup, punctuators};
+ghost use Rattle.c_tokens.specs.Pieces.{are_digits, begins_prefixed, begins_quote, below_256, character_value, first_piece, is_prefixed, longest_piece, has_doubtful_quote, numeric_escape, run_size, simple_escapes, written};
 ghost use Rattle.c_scan.specs.Rows.{rows};
 ghost use Rattle.c_scan.specs.Runs.{goes_on};
 ghost use Rattle.c_scan.specs.Fronts.{block_from, block_front, character_front, mark_front, piece, piece_of, quoted_from, shape_of, string_front};
 ghost use Rattle.std.specs.Prelude.{Option};
-ghost use Rattle.c_model.specs.Pieces.{escape_value, Piece as SpecPiece};
+ghost use Rattle.c_tokens.specs.Pieces.{escape_value, Piece as SpecPiece};
 ghost use Rattle.c_scan.specs.Fronts.{mark_or, or_else};
 ghost use Rattle.c_scan.specs.Escapes.{escapes};
 
 use crate::bytes::{Run, are_digits, begins_number, is_nondigit, is_space, run_size, written};
 use crate::words::{Row, find};
-use c_model::TokenKind;
+use c_tokens::TokenKind;
 use kv_base::NoMemory;
 use std::alloc::Global;
 
@@ -137,6 +137,7 @@ static ESCAPES: [Escape; 11] = [
     },
 ];
 
+/// The value of the first row with this text.
 fn find_escape(table: &[Escape], text: &[u8]) -> Option<u8>
     ensures { result ≡ lookup (escapes table.now) text.now }
 {
@@ -148,12 +149,14 @@ fn find_escape(table: &[Escape], text: &[u8]) -> Option<u8>
     None
 }
 
+/// The byte for which a simple escape sequence stands.
 fn simple_escape(text: &[u8]) -> Option<u8>
     ensures { result ≡ lookup simple_escapes text.now }
 {
     find_escape(&ESCAPES, text)
 }
 
+/// The number that digits write, where it is a byte.
 fn byte_written(base: u8, digits: &[u8]) -> Option<u8>
     requires { 1 ≤ base }
     ensures { result ≡ below_256 true (written base digits.now) }
@@ -184,6 +187,7 @@ fn numeric_escape(text: &[u8]) -> Option<u8>
     }
 }
 
+/// The byte for which an escape sequence stands, after its backslash.
 fn escape_value(text: &[u8]) -> Option<u8>
     ensures { result ≡ escape_value text.now }
 {
@@ -292,9 +296,9 @@ fn mark_piece(alloc: Global, table: &[Row], text: &[u8]) -> Result<Option<Piece>
 }
 
 /// The longest piece at the front of a text (6.4p4).
-pub fn first_piece(alloc: Global, table: &[Row], text: &[u8]) -> Result<Option<Piece>, NoMemory>
+fn longest_piece(alloc: Global, table: &[Row], text: &[u8]) -> Result<Option<Piece>, NoMemory>
     requires { rows table.now ≡ punctuators }
-    ensures { IfOk result (λ found. option_map piece_of found ≡ first_piece text.now) }
+    ensures { IfOk result (λ found. option_map piece_of found ≡ longest_piece text.now) }
 {
     let [c, rest @ ..] = text else {
         return Ok(None);
@@ -333,4 +337,43 @@ pub fn first_piece(alloc: Global, table: &[Row], text: &[u8]) -> Result<Option<P
         }));
     }
     mark_piece(alloc, table, text)
+}
+
+/// Whether a quote stands at the front.
+fn begins_quote(text: &[u8]) -> bool
+    ensures { result ≡ begins_quote text.now }
+{
+    match text {
+        [c, ..] => *c == b'\'' || *c == b'"',
+        [] => false,
+    }
+}
+
+/// Whether this encoding prefix stands directly before a quote.
+fn is_prefixed(prefix: &[u8], text: &[u8]) -> bool
+    ensures { result ≡ is_prefixed prefix.now text.now }
+{
+    text.starts_with(prefix) && begins_quote(&text[prefix.len()..])
+}
+
+/// Whether the text begins with a character constant or string that has an encoding prefix (6.4.4.4, 6.4.5).
+fn begins_prefixed(text: &[u8]) -> bool
+    ensures { result ≡ begins_prefixed text.now }
+{
+    is_prefixed(b"L", text)
+        || is_prefixed(b"u", text)
+        || is_prefixed(b"U", text)
+        || is_prefixed(b"u8", text)
+}
+
+/// The piece at the front of a text.
+#[tactic(auto, unfolding(c_tokens::specs::Pieces::first_piece))]
+pub fn first_piece(alloc: Global, table: &[Row], text: &[u8]) -> Result<Option<Piece>, NoMemory>
+    requires { rows table.now ≡ punctuators }
+    ensures { IfOk result (λ found. option_map piece_of found ≡ first_piece text.now) }
+{
+    if begins_prefixed(text) {
+        return Ok(None);
+    }
+    longest_piece(alloc, table, text)
 }

@@ -1,8 +1,8 @@
-ghost use Rattle.std.specs.Prelude.{◌≡◌, IfOk};
-ghost use Rattle.c_model.specs.Words.{lookup, words, punctuators};
-ghost use Rattle.c_scan.specs.Rows.{rows};
+ghost use Rattle.std.specs.Prelude.{◌≡◌, IfOk, map};
+ghost use Rattle.c_tokens.specs.Words.{left_out_row, left_out_words, lookup, words, punctuators};
+ghost use Rattle.c_scan.specs.Rows.{row_view, rows, words_of};
 
-use c_model::TokenKind;
+use c_tokens::{TokenKind, left_out_text};
 use kv_base::{Copied, NoMemory};
 use std::alloc::Global;
 
@@ -25,8 +25,8 @@ pub fn find(alloc: Global, table: &[Row], text: &[u8]) -> Result<Option<TokenKin
     Ok(None)
 }
 
-/// Keywords (C11 6.4.1), two words of gcc, and the words that the accepted C leaves out.
-const WORDS: [Row; 49] = [
+/// Keywords (C11 6.4.1), and two words of gcc.
+const KEYWORDS: [Row; 34] = [
     Row {
         text: b"auto",
         kind: TokenKind::Auto,
@@ -163,67 +163,73 @@ const WORDS: [Row; 49] = [
         text: b"__extension__",
         kind: TokenKind::Extension,
     },
-    Row {
-        text: b"float",
-        kind: TokenKind::Float,
-    },
-    Row {
-        text: b"double",
-        kind: TokenKind::Double,
-    },
-    Row {
-        text: b"_Complex",
-        kind: TokenKind::Complex,
-    },
-    Row {
-        text: b"_Imaginary",
-        kind: TokenKind::Imaginary,
-    },
-    Row {
-        text: b"union",
-        kind: TokenKind::Union,
-    },
-    Row {
-        text: b"goto",
-        kind: TokenKind::Goto,
-    },
-    Row {
-        text: b"asm",
-        kind: TokenKind::Asm,
-    },
-    Row {
-        text: b"__asm__",
-        kind: TokenKind::UnderscoredAsm,
-    },
-    Row {
-        text: b"__asm",
-        kind: TokenKind::UnderscoreAsm,
-    },
-    Row {
-        text: b"_Generic",
-        kind: TokenKind::Generic,
-    },
-    Row {
-        text: b"_Atomic",
-        kind: TokenKind::Atomic,
-    },
-    Row {
-        text: b"_Thread_local",
-        kind: TokenKind::ThreadLocal,
-    },
-    Row {
-        text: b"_Alignas",
-        kind: TokenKind::Alignas,
-    },
-    Row {
-        text: b"_Alignof",
-        kind: TokenKind::Alignof,
-    },
-    Row {
-        text: b"_Static_assert",
-        kind: TokenKind::StaticAssert,
-    },
 ];
+
+/// The row of a word that the accepted C leaves out.
+fn left_out_row(kind: TokenKind) -> Row
+    ensures { row_view result ≡ left_out_row kind }
+{
+    let text = match left_out_text(&kind) {
+        Some(text) => text,
+        None => "",
+    };
+    Row {
+        text: text.as_bytes(),
+        kind,
+    }
+}
+
+/// The words that the accepted C leaves out.
+fn left_out_rows() -> [Row; 15]
+    ensures { rows result ≡ map left_out_row left_out_words }
+{
+    [
+        left_out_row(TokenKind::Float),
+        left_out_row(TokenKind::Double),
+        left_out_row(TokenKind::Complex),
+        left_out_row(TokenKind::Imaginary),
+        left_out_row(TokenKind::Union),
+        left_out_row(TokenKind::Goto),
+        left_out_row(TokenKind::Asm),
+        left_out_row(TokenKind::UnderscoredAsm),
+        left_out_row(TokenKind::UnderscoreAsm),
+        left_out_row(TokenKind::Generic),
+        left_out_row(TokenKind::Atomic),
+        left_out_row(TokenKind::ThreadLocal),
+        left_out_row(TokenKind::Alignas),
+        left_out_row(TokenKind::Alignof),
+        left_out_row(TokenKind::StaticAssert),
+    ]
+}
+
+/// The words of the accepted C, and those that it leaves out.
+#[derive(Drop)]
+pub struct Words {
+    keywords: [Row; 34],
+    left_out: [Row; 15],
+}
+
+impl Words {
+    /// The words.
+    fn new() -> Words
+        ensures { words_of result ≡ words }
+    {
+        Words {
+            keywords: KEYWORDS,
+            left_out: left_out_rows(),
+        }
+    }
+
+    /// The token of the word that a text is.
+    pub fn find(&self, alloc: Global, text: &[u8]) -> Result<Option<TokenKind>, NoMemory>
+        ensures { IfOk result (λ found. found ≡ lookup (words_of self.now) text.now) }
+    {
+        match find(alloc, &self.keywords, text)? {
+            Some(kind) => Ok(Some(kind)),
+            None => find(alloc, &self.left_out, text),
+        }
+    }
+}
 
 /// Punctuators (6.4.6).
 const PUNCTUATORS: [Row; 46] = [
@@ -416,17 +422,18 @@ const PUNCTUATORS: [Row; 46] = [
 /// The tables that a reading looks words and punctuators up in.
 #[derive(Drop)]
 pub struct Vocabulary {
-    pub words: [Row; 49],
+    pub words: Words,
     pub punctuators: [Row; 46],
 }
 
 impl Vocabulary {
+    /// The tables.
     pub fn new() -> Vocabulary
-        ensures words { rows result.words ≡ words }
+        ensures words { words_of result.words ≡ words }
         ensures punctuators { rows result.punctuators ≡ punctuators }
     {
         Vocabulary {
-            words: WORDS,
+            words: Words::new(),
             punctuators: PUNCTUATORS,
         }
     }

@@ -1,20 +1,20 @@
 -- What spells a straight program isn't refused.
 use Rattle.std.proofs.Common.{◌≡◌, ℕ, ◌+◌, ◌<◌, ◌≤◌, List, length, Option, Some, None, sym, subst, ◌∙◌, ap, arith}
-use Rattle.c_model.specs.declared.token.Token.{Token}
-use Rattle.c_model.specs.declared.token.TokenKind.{TokenKind}
-use Rattle.c_model.specs.declared.data_model.DataModel.TheVariants.{Lp64}
+use Rattle.c_tokens.specs.declared.token.Token.{Token}
+use Rattle.c_tokens.specs.declared.token.TokenKind.{TokenKind}
+use Rattle.c_tokens.specs.declared.data_model.DataModel.TheVariants.{Lp64}
 use Rattle.c_model.specs.declared.program.Program.{Program}
-use Rattle.c_model.specs.Reading.{Fault, Reading, Read, Fails, reading}
+use Rattle.c_tokens.specs.Reading.{Fault, Reading, Read, Fails, reading}
 use Rattle.c_tree.specs.declared.declaration.Tree.{Tree}
 use Rattle.c_tree.specs.Nesting.{depth_after}
 use Rattle.c_tree.specs.SpellsText.{kinds_of, Spells}
-use Rattle.c_grammar.specs.Laws.{OneTree}
+use Rattle.c_grammar_laws.specs.Laws.{OneTree}
 use Rattle.c_nesting.specs.declared.nesting.TheConstants.{LIMIT}
 use Rattle.c_parser.specs.Parses.{left_out, IsFirstTooDeep, IsWithin}
 use Rattle.c_straight.specs.Straight.{IsStraight}
 use Rattle.c_source.specs.declared.refusal.Refusal.{Refusal}
 use Rattle.c_source.specs.declared.refusal.Refusal.TheVariants.{TooLong, NoToken, Directive, LongConstant, TooManyTokens, LeftOut, TooDeep, Syntax, NotYet}
-use Rattle.c_source.specs.Sources.{most_bytes, HasTokens, FailsWith, HasTree, Early, Refuses}
+use Rattle.c_source.specs.Sources.{HasTokens, FailsWith, HasTree, Early, Refuses}
 
 same_tokens : (source : List ℕ) (a b : List Token) → HasTokens source a → HasTokens source b → a ≡ b
 same_tokens source a b h k = let e = h.read in let f = k.read in cc

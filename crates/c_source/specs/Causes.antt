@@ -1,6 +1,6 @@
 -- Why a source gives no program.
 use Rattle.std.specs.Prelude.{ℕ, List}
-use Rattle.c_model.specs.declared.token.Token.{Token}
+use Rattle.c_tokens.specs.declared.token.Token.{Token}
 use Rattle.c_source.specs.declared.reading.Unread.{Unread}
 use Rattle.c_source.specs.declared.reading.Unread.TheVariants.{Refused, NoMemory}
 use Rattle.c_source.specs.Sources.{HasTokens, Refuses}

@@ -1,23 +1,20 @@
 -- What the bytes of a source say: the straight program that they spell, or why they are refused. Sections are those of
 -- ISO/IEC 9899:2011.
-use Rattle.std.specs.Prelude.{◌≡◌, ℕ, ◌+◌, ◌-◌, ◌<◌, ◌≤◌, List, [], length, take, min, Option, Some, None, slice_get, codes}
-use Rattle.c_model.specs.declared.data_model.DataModel.TheVariants.{Lp64}
-use Rattle.c_model.specs.declared.token.Token.{Token}
-use Rattle.c_model.specs.declared.token.TokenKind.{TokenKind}
-use Rattle.c_model.specs.declared.token.TokenKind.TheVariants as token
+use Rattle.std.specs.Prelude.{◌≡◌, ℕ, ◌+◌, ◌-◌, ◌<◌, ◌≤◌, List, [], length, take, min, Option, Some, None, slice_get, unwrap_or}
+use Rattle.c_tokens.specs.declared.data_model.DataModel.TheVariants.{Lp64}
+use Rattle.c_tokens.specs.declared.limits.TheConstants.{MAX_BYTES}
+use Rattle.c_tokens.specs.declared.token.Token.{Token}
+use Rattle.c_tokens.specs.declared.token.TokenKind.{TokenKind}
 use Rattle.c_model.specs.declared.program.Program.{Program}
-use Rattle.c_model.specs.Reading.{Fault, Read, Fails, newlines, place_of, reading}
-use Rattle.c_model.specs.Reading as lexing
+use Rattle.c_tokens.specs.Reading.{Fault, Read, Fails, newlines, place_of, reading}
+use Rattle.c_tokens.specs.Reading as lexing
+use Rattle.c_tokens.specs.Words.{left_out_text}
 use Rattle.c_tree.specs.declared.declaration.Tree.{Tree}
 use Rattle.c_tree.specs.SpellsText.{kinds_of, Spells}
 use Rattle.c_parser.specs.Parses.{left_out, IsFirstTooDeep, IsWithin, SpellsNone}
 use Rattle.c_straight.specs.Straight.{IsStraight}
 use Rattle.c_source.specs.declared.refusal.Refusal.{Refusal}
 use Rattle.c_source.specs.declared.refusal.Refusal.TheVariants.{TooLong, NoToken, Directive, LongConstant, TooManyTokens, LeftOut, TooDeep, Syntax, NotYet}
-
--- the most bytes that a source may have
-abbrev pub most_bytes : ℕ
-most_bytes = 1048576
 
 -- ---- lines, counted from 1
 
@@ -29,34 +26,19 @@ abbrev pub line_in : Option Token → ℕ
 line_in (Some token) = token.line
 line_in None = 1
 
--- the line of the token of a number; behind the last token it is that of the last, or 1
+-- the line of the token of a number; after the last token it is that of the last, or 1
 abbrev pub line_at : List Token → ℕ → ℕ
 line_at tokens at = line_in (slice_get tokens (min at (length tokens - 1)))
 
 -- ---- words
 
--- a left-out word as it is printed
+-- a left-out token as it is printed; nothing where it isn't left out
 abbrev pub word_of : TokenKind → List ℕ
-word_of token.Float = codes "float"
-word_of token.Double = codes "double"
-word_of token.Complex = codes "_Complex"
-word_of token.Imaginary = codes "_Imaginary"
-word_of token.Union = codes "union"
-word_of token.Goto = codes "goto"
-word_of token.Asm = codes "asm"
-word_of token.UnderscoredAsm = codes "__asm__"
-word_of token.UnderscoreAsm = codes "__asm"
-word_of token.Generic = codes "_Generic"
-word_of token.Atomic = codes "_Atomic"
-word_of token.ThreadLocal = codes "_Thread_local"
-word_of token.Alignas = codes "_Alignas"
-word_of token.Alignof = codes "_Alignof"
-word_of token.StaticAssert = codes "_Static_assert"
-word_of _ = codes "floating constant"
+word_of kind = unwrap_or (left_out_text kind) []
 
 abbrev pub word_in : Option TokenKind → List ℕ
 word_in (Some kind) = word_of kind
-word_in None = codes "floating constant"
+word_in None = []
 
 abbrev pub word_at : List Token → ℕ → List ℕ
 word_at tokens at = word_in (slice_get (kinds_of tokens) at)
@@ -65,12 +47,12 @@ word_at tokens at = word_in (slice_get (kinds_of tokens) at)
 
 -- these are the tokens of the bytes (6.4, 6.10)
 pub record HasTokens (source : List ℕ) (tokens : List Token) : Type 0 where
-  pub size : length source ≤ most_bytes
+  pub size : length source ≤ MAX_BYTES
   pub read : reading Lp64 source ≡ Read tokens
 
 -- the reading of the bytes fails so
 pub record FailsWith (source : List ℕ) (fault : Fault) : Type 0 where
-  pub size : length source ≤ most_bytes
+  pub size : length source ≤ MAX_BYTES
   pub read : reading Lp64 source ≡ Fails fault
 
 -- this is the tree of the bytes (6.9)
@@ -129,7 +111,7 @@ pub record IsNotYet (source : List ℕ) : Type 0 where
 
 -- the bytes are refused for this
 abbrev pub Refuses : List ℕ → Refusal → Type 0
-Refuses source TooLong = most_bytes < length source
+Refuses source TooLong = MAX_BYTES < length source
 Refuses source (NoToken line) = (at : ℕ) × IsUnread source (lexing.NoToken at) line
 Refuses source (Directive line) = (at : ℕ) × IsUnread source (lexing.Directive at) line
 Refuses source (LongConstant line) = (at : ℕ) × IsUnread source (lexing.LongConstant at) line

@@ -8,11 +8,12 @@ ghost use Rattle.c_source.specs.Causes.{IsCause, IsCauseBehind};
 use crate::Refusal;
 use crate::lines::{line_at, line_of};
 use crate::words::word_at;
-use c_grammar::laws::one_tree;
+use c_grammar_laws::laws::one_tree;
 use c_lexer::{LexFault, MAX_BYTES, lex};
-use c_model::{DataModel, Program, Tokens};
+use c_model::Program;
 use c_parser::{ParseFault, parse};
 use c_straight::straight;
+use c_tokens::{DataModel, Tokens};
 use c_tree::Tree;
 use kv_base::NoMemory;
 use std::alloc::Global;
@@ -38,7 +39,7 @@ impl From<NoMemory> for Unread {
 
 /// The tokens of a source.
 fn tokens_of(alloc: Global, source: &[u8]) -> Result<Tokens, Unread>
-    requires { length source.now ≤ 1048576 }
+    requires { length source.now ≤ MAX_BYTES }
     ensures { MatchResult result (HasTokens source.now) (IsCause source.now) }
 {
     let refusal = match lex(alloc, source, DataModel::Lp64) {
@@ -116,5 +117,6 @@ pub fn read_source(alloc: Global, source: &[u8]) -> Result<Program, Unread>
 pub fn spells_or_refuses()
     ensures { SpellsOrRefuses }
 {
+    // The law says that tokens spell one tree at most.
     one_tree();
 }

@@ -1,1 +1,3 @@
+pub mod ConstantSteps
+pub mod Lines
 pub mod SpecifierSteps

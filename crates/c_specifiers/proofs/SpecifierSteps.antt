@@ -1,16 +1,16 @@
 -- Specifiers, part by part.
 use Rattle.std.proofs.Common.{◌≡◌, ℕ, ◌+◌, ◌-◌, ◌<◌, ◌≤◌, Bool, true, false, List, [], ◌∷◌, ◌++◌, Option, Some, None, Result, refl, sym, subst, ◌∙◌, ap, append_assoc, arith}
-use Rattle.c_model.specs.declared.token.TokenKind.{TokenKind}
-use Rattle.c_model.specs.declared.token.TokenKind.TheVariants as token
+use Rattle.c_tokens.specs.declared.token.TokenKind.{TokenKind}
+use Rattle.c_tokens.specs.declared.token.TokenKind.TheVariants as token
 use Rattle.c_tree.specs.declared.expression.Specifier.{Specifier}
 use Rattle.c_tree.specs.declared.expression.Specifier.TheVariants as specifier_node
 use Rattle.c_tree.specs.Places.{Place, next}
 use Rattle.c_tree.specs.Spells.{Role, Defines, Types, Modifies, types_now, defines_now}
-use Rattle.c_marks.specs.declared.fault.Fault.{Fault}
-use Rattle.c_marks.specs.declared.marks.Mark.TheVariants as mark
-use Rattle.c_marks.specs.Bare.{bare}
-use Rattle.c_marks.specs.Reads.{ReadsAs, name_read}
-use Rattle.c_marks.specs.Parts.{lines_at, constants_at}
+use Rattle.c_cursor.specs.declared.fault.Fault.{Fault}
+use Rattle.c_cursor.specs.declared.marks.Mark.TheVariants as mark
+use Rattle.c_cursor.specs.Bare.{bare}
+use Rattle.c_cursor.specs.Reads.{ReadsAs, name_read}
+use Rattle.c_cursor.specs.Parts.{lines_at, constants_at}
 use Rattle.c_specifiers.specs.Specifiers.{structure, enumeration, at_number, word_specifier, specifier_at, decorated_specifier, further_at}
 use Rattle.c_grammar.specs.Kinds.{kind_at, start, is_start, begins_type}
 use Rattle.c_grammar.specs.Marks as spec
@@ -18,9 +18,9 @@ use Rattle.c_grammar.specs.Marks.{Mark, mark_of, mark_at}
 use Rattle.c_grammar.specs.Reader.{Outcome, Gives, Refuses, and_then}
 use Rattle.c_grammar.specs.ReadTypes as types
 use Rattle.c_grammar.specs.ReadTypes.{Specific, Plays, Specified, Specifies, Titled, Titles, Skips, ReadsSpecifiers, attributes, is_further, goes_further, joined, further_by, further_after, further}
-use Rattle.c_marks.proofs.Lists.{one_further}
-use Rattle.c_marks.proofs.Lists.{then_both}
-use Rattle.c_marks.proofs.Single.{name_of, name_marked}
+use Rattle.c_cursor.proofs.Lists.{one_further}
+use Rattle.c_cursor.proofs.Lists.{then_both}
+use Rattle.c_cursor.proofs.Single.{name_of, name_marked}
 
 -- ---- what reads one outcome reads an equal one
 
@@ -133,7 +133,7 @@ specified_joined found defines role x (Gives (Specifies further list) q) =
     ∙ ap (λ ys. Gives (Specifies (either (defines_now role defines) further) ys) q) (sym (append_assoc found (x ∷ []) list))
 specified_joined found defines role x Refuses = refl
 
--- behind a specifier and what has no meaning
+-- after a specifier and what has no meaning
 behind : List TokenKind → (Bool → ReadsSpecifiers) → Bool → Specific → Place → Outcome Specified
 behind kinds more typed (Plays role x) q = further_by more (types_now typed role) role x q (goes_further kinds (types_now typed role) q)
 

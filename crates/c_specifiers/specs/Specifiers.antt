@@ -1,6 +1,6 @@
 -- The parts of specifiers (6.7), as the functions that read them divide them.
 use Rattle.std.specs.Prelude.{ℕ, Bool, List, []}
-use Rattle.c_model.specs.declared.token.TokenKind.{TokenKind}
+use Rattle.c_tokens.specs.declared.token.TokenKind.{TokenKind}
 use Rattle.c_tree.specs.declared.expression.Specifier.TheVariants as specifier_node
 use Rattle.c_tree.specs.Places.{Place, next}
 use Rattle.c_tree.specs.Spells as spelled
@@ -10,9 +10,9 @@ use Rattle.c_grammar.specs.Marks.{mark_at}
 use Rattle.c_grammar.specs.Reader.{Outcome, Gives, Refuses, and_then}
 use Rattle.c_grammar.specs.ReadTypes as spec
 use Rattle.c_grammar.specs.ReadTypes.{Plays, attributes}
-use Rattle.c_marks.specs.declared.marks.Mark.{Mark}
-use Rattle.c_marks.specs.declared.marks.Mark.TheVariants as mark
-use Rattle.c_marks.specs.Parts.{lines_at, constants_at}
+use Rattle.c_cursor.specs.declared.marks.Mark.{Mark}
+use Rattle.c_cursor.specs.declared.marks.Mark.TheVariants as mark
+use Rattle.c_cursor.specs.Parts.{lines_at, constants_at}
 use Rattle.c_specifiers.specs.declared.specifiers.Role.{Role}
 use Rattle.c_specifiers.specs.declared.specifiers.Role.TheVariants.{Defines, Types, Modifies}
 use Rattle.c_specifiers.specs.declared.specifiers.Specific.{Specific}
@@ -54,7 +54,7 @@ word_specifier _ p = Refuses
 abbrev pub specifier_at : List TokenKind → ℕ → Bool → Place → Outcome spec.Specific
 specifier_at kinds n typed p = spec.specifier_by kinds (lines_at kinds n) (constants_at kinds n) typed p (mark_at kinds p)
 
--- with what has no meaning behind it, which the second number bounds
+-- with what has no meaning after it, which the second number bounds
 abbrev pub decorated_specifier : List TokenKind → ℕ → ℕ → Bool → Place → Outcome spec.Specific
 decorated_specifier kinds n limit typed p = and_then (specifier_at kinds n typed p) (λ s q. and_then (attributes kinds limit q) (λ u r. Gives s r))
 

@@ -7,15 +7,16 @@ ghost use Rattle.c_tree.specs.declared.expression.Specifier.TheVariants as speci
 ghost use Rattle.c_grammar.specs.Marks.{mark_at};
 ghost use Rattle.c_grammar.specs.ReadTypes as spec;
 ghost use Rattle.c_grammar.specs.Readers as readers;
-ghost use Rattle.c_marks.specs.Bare.{IsMark};
-ghost use Rattle.c_marks.specs.Reads.{Reads, ReadsAs, specified_of};
-ghost use Rattle.c_marks.specs.Parts.{ReadsPart, lines_at, constants_at};
+ghost use Rattle.c_cursor.specs.Bare.{IsMark};
+ghost use Rattle.c_cursor.specs.Reads.{Reads, ReadsAs, specified_of};
+ghost use Rattle.c_cursor.specs.Parts.{ReadsPart, lines_at, constants_at};
 ghost use Rattle.c_specifiers.specs.Specifiers.{role_of, specific_of, structure, enumeration, at_number, typedef_name, word_specifier, specifier_at, decorated_specifier, further_at};
 
 use c_boxes::keeping;
-use c_marks::{Fault, Mark, Specified, attributes, begins_type, mark_at, name, refuse, take};
-use c_model::{Token, TokenKind};
-use c_scopes::Cursor;
+use c_cursor::{
+    Cursor, Fault, Mark, Specified, attributes, begins_type, mark_at, name, refuse, take,
+};
+use c_tokens::{Token, TokenKind};
 use c_tree::{EnumConstant, MemberLine, Specifier, StorageWord};
 use kv_base::{Bytes, Copied};
 use sqlite_items::Items;
@@ -155,9 +156,9 @@ pub struct Specifiers<'t, L, C> {
     pub tokens: &'t [Token],
     /// How many steps may still be taken.
     pub depth: usize,
-    /// Reads the lines of a struct in so many steps.
+    /// Reads the lines of a struct in at most a given number of steps.
     pub lines: L,
-    /// Reads the constants of an enumeration in so many steps.
+    /// Reads the constants of an enumeration in at most a given number of steps.
     pub constants: C,
 }
 
@@ -172,7 +173,7 @@ impl<'t, L, C> Specifiers<'t, L, C> {
         }
     }
 
-    /// Whether a further specifier may begin here, behind others among which a type stands or not.
+    /// Whether a further specifier may begin here, after others among which a type stands or not.
     fn goes_further(&self, typed: bool, place: &Cursor) -> bool
         ensures { result ≡ spec.goes_further (kinds_of self.now.tokens.now) typed place.now }
     {
@@ -200,7 +201,7 @@ impl<
     }
 
     /// The lines of a struct in their brackets, from the `{` on; `struct` stands at `at`.
-    #[tactic(auto, using(c_marks::proofs::Skipped::curly_closes_taken, c_marks::proofs::Skipped::curly_closes_missing))]
+    #[tactic(auto, using(c_cursor::proofs::Skipped::curly_closes_taken, c_cursor::proofs::Skipped::curly_closes_missing))]
     fn struct_body(
         &self,
         tag: Option<Bytes>,
@@ -217,7 +218,7 @@ impl<
         Ok(types(Specifier::Struct { tag, lines, at }))
     }
 
-    /// What stands behind a struct's tag; `struct` stands at `at`.
+    /// What follows a struct's tag; `struct` stands at `at`.
     fn struct_tagged(&self, tag: Bytes, at: usize, place: &mut Cursor) -> Result<Specific, Fault>
         requires lines { ReadsPart lines_at self.now.depth (L.pre self.now.lines) (L.post self.now.lines) }
         ensures { let kinds = kinds_of self.now.tokens.now in ReadsAs specific_of (spec.struct_tagged kinds (lines_at kinds self.now.depth) (at_number at) tag place.old (mark_at kinds place.old)) result place.new }
@@ -259,7 +260,7 @@ impl<
     }
 
     /// The constants of an enumeration in their brackets, from the `{` on; `enum` stands at `at`.
-    #[tactic(auto, using(c_marks::proofs::Skipped::curly_closes_taken, c_marks::proofs::Skipped::curly_closes_missing))]
+    #[tactic(auto, using(c_cursor::proofs::Skipped::curly_closes_taken, c_cursor::proofs::Skipped::curly_closes_missing))]
     fn enum_body(
         &self,
         tag: Option<Bytes>,
@@ -276,7 +277,7 @@ impl<
         Ok(types(Specifier::Enum { tag, constants, at }))
     }
 
-    /// What stands behind an enumeration's tag; `enum` stands at `at`.
+    /// What follows an enumeration's tag; `enum` stands at `at`.
     fn enum_tagged(&self, tag: Bytes, at: usize, place: &mut Cursor) -> Result<Specific, Fault>
         requires constants { ReadsPart constants_at self.now.depth (C.pre self.now.constants) (C.post self.now.constants) }
         ensures { let kinds = kinds_of self.now.tokens.now in ReadsAs specific_of (spec.enum_tagged kinds (constants_at kinds self.now.depth) (at_number at) tag place.old (mark_at kinds place.old)) result place.new }
@@ -309,7 +310,7 @@ impl<
     L: Fn(Global, &[Token], usize, &mut Cursor) -> Result<Items<MemberLine>, Fault>,
     C: Fn(Global, &[Token], usize, &mut Cursor) -> Result<Items<EnumConstant>, Fault>,
 > Specifiers<'t, L, C> {
-    /// A specifier behind others, among which a type stands or not.
+    /// A specifier after others, among which a type stands or not.
     fn specifier(&self, typed: bool, place: &mut Cursor) -> Result<Specific, Fault>
         requires lines { ReadsPart lines_at self.now.depth (L.pre self.now.lines) (L.post self.now.lines) }
         requires constants { ReadsPart constants_at self.now.depth (C.pre self.now.constants) (C.post self.now.constants) }
@@ -323,7 +324,7 @@ impl<
         }
     }
 
-    /// A specifier, and what has no meaning behind it.
+    /// A specifier, and what has no meaning after it.
     fn decorated_specifier(
         &self,
         limit: usize,

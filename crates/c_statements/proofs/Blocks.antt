@@ -1,17 +1,17 @@
 -- Blocks, which are read one item after another.
 use Rattle.std.proofs.Common.{◌≡◌, List, [], ◌∷◌, ◌++◌, ℕ, zero, suc, false, ◌+◌, ◌-◌, ◌<◌, refl, ap, ◌∙◌, sym, arith}
-use Rattle.c_model.specs.declared.token.TokenKind.{TokenKind}
+use Rattle.c_tokens.specs.declared.token.TokenKind.{TokenKind}
 use Rattle.c_tree.specs.declared.statement.BlockItem.{BlockItem}
 use Rattle.c_tree.specs.Places.{Place}
 use Rattle.c_grammar.specs.Kinds.{begins_type}
 use Rattle.c_grammar.specs.Marks as spec
 use Rattle.c_grammar.specs.Marks.{mark_at}
-use Rattle.c_marks.specs.declared.marks.Mark.TheVariants as mark
-use Rattle.c_marks.specs.Bare.{bare, bare_at}
+use Rattle.c_cursor.specs.declared.marks.Mark.TheVariants as mark
+use Rattle.c_cursor.specs.Bare.{bare, bare_at}
 use Rattle.c_grammar.specs.Reader.{Outcome, Gives, Refuses, and_then}
 use Rattle.c_grammar.specs.ReadTypes.{ListOf}
 use Rattle.c_grammar.specs.ReadStatements.{ReadsDeclaration, ReadsStatement, block, block_by, item, declares_by}
-use Rattle.c_marks.proofs.Lists.{after, after_none, joined, append_none, one_further}
+use Rattle.c_cursor.proofs.Lists.{after, after_none, joined, append_none, one_further}
 
 -- ---- whether an item is a declaration
 

@@ -1,2 +1,4 @@
-pub mod Knots
 pub mod Blocks
+pub mod ChainSteps
+pub mod Leaving
+pub mod Starts

@@ -1,7 +1,7 @@
 -- Bodies, item by item.
-use Rattle.std.proofs.Common.{◌≡◌, ℕ, suc, ◌+◌, ◌<◌, Bool, true, false, List, [], ◌∷◌, ◌++◌, length, get_or, drop, Option, Some, None, refl, sym, ap, ◌∙◌, append_assoc, arith, drop-cons, length-drop, add-one, subst}
+use Rattle.std.proofs.Common.{◌≡◌, ℕ, suc, ◌+◌, ◌<◌, Bool, true, false, List, [], ◌∷◌, ◌++◌, length, get_or, drop, Option, Some, None, refl, sym, ap, ◌∙◌, append_assoc, arith, drop-cons, length-drop, add-one}
 use Rattle.std.proofs.lemmas.List.{append-nil}
-use Rattle.c_model.specs.declared.token.Token.{Token}
+use Rattle.c_tokens.specs.declared.token.Token.{Token}
 use Rattle.c_model.specs.declared.program.BlockItem.{BlockItem}
 use Rattle.c_tree.specs.declared.statement.BlockItem.{BlockItem as TreeItem}
 use Rattle.c_straight.specs.Straight.{and_then, where_true, item_of, returns_zero, body_of}
@@ -15,7 +15,7 @@ pub prefixed_none : (o : Option (List BlockItem)) → o ≡ prefixed [] o
 prefixed_none None = refl
 prefixed_none (Some items) = refl
 
--- an item, and those behind it
+-- an item, and those after it
 abbrev with_first : Option BlockItem → Option (List BlockItem) → Option (List BlockItem)
 with_first first further = and_then first (λ item. and_then further (λ items. Some (item ∷ items)))
 
@@ -40,7 +40,7 @@ unfolding body_of
 ends tokens n x [] h = refl
 ends tokens n x (y ∷ rest) h = absurd (omega arith)
 
--- behind some items, before another
+-- after some items, before another
 body_front : (tokens : List Token) (n : ℕ) (items : List TreeItem) (at : ℕ) (x : TreeItem) → at < length items → x ≡ get_or items at x → 0 < length (drop (at + 1) items)
     → body_of tokens n (drop at items) ≡ with_first (item_of tokens n x) (body_of tokens n (drop (at + 1) items))
 body_front tokens n items at x within is some = ap (body_of tokens n) (front items at x within is) ∙ goes_on tokens n x (drop (at + 1) items) some

@@ -1,6 +1,5 @@
 -- One step of the definitions that go by a number.
-use Rattle.std.proofs.Common.{◌≡◌, ℕ, zero, suc, ◌-◌, ◌<◌, List, [], ◌∷◌, Option, Some, None, ap, arith, refl}
-use Rattle.c_model.specs.declared.program.Sum.{Sum}
+use Rattle.std.proofs.Common.{◌≡◌, ℕ, suc, ◌-◌, ◌<◌, None, ap, arith}
 use Rattle.c_tree.specs.declared.expression.Expression.{Expression}
 use Rattle.c_straight.specs.Straight.{sum_of, sum_by}
 

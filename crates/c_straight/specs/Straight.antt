@@ -4,12 +4,11 @@ use Rattle.std.specs.Option.{is_some}
 use Rattle.std.specs.Str.{bytes_eq}
 use Rattle.kv_num.specs.declared.types.IntType.{IntType}
 use Rattle.kv_num.specs.declared.types.IntType.TheVariants.{Int}
-use Rattle.c_model.specs.declared.token.Token.{Token}
+use Rattle.c_tokens.specs.declared.token.Token.{Token}
 use Rattle.c_model.specs.declared.program.Operand.{Operand}
 use Rattle.c_model.specs.declared.program.Operand.TheVariants as operand
 use Rattle.c_model.specs.declared.program.Sign.{Sign}
 use Rattle.c_model.specs.declared.program.Sign.TheVariants.{Plus, Minus}
-use Rattle.c_model.specs.declared.program.Addend.{Addend}
 use Rattle.c_model.specs.declared.program.Sum.{Sum}
 use Rattle.c_model.specs.declared.program.Relation.{Relation}
 use Rattle.c_model.specs.declared.program.Relation.TheVariants as relation
@@ -181,7 +180,7 @@ returns_zero x = elim (out-BlockItem x) as (λ _. Bool) [
   | _ ↦ false
 ]
 
--- items, and `return 0;` behind them
+-- items, and `return 0;` after them
 unfoldable pub body_of : List Token → ℕ → List TreeItem → Option (List BlockItem)
 body_of tokens n [] = None
 body_of tokens n (x ∷ []) = where_true (returns_zero x) (Some [])

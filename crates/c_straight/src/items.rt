@@ -6,7 +6,8 @@ ghost use Rattle.std.specs.Option.{option_map};
 ghost use Rattle.c_straight.specs.Straight as spec;
 
 use crate::sums::sum;
-use c_model::{BlockItem, Relation, Sum, Token};
+use c_model::{BlockItem, Relation, Sum};
+use c_tokens::Token;
 use c_tree::{
     AssignOperator, BaseWord, BinaryOperator, BlockItem as Item, Declaration, Declarator, Declared,
     Expression, Initialiser, Specifier, Statement,
@@ -105,7 +106,7 @@ impl Reader<'_> {
         }
     }
 
-    /// `name = sum` behind `int`, which stands at a token.
+    /// `name = sum` after `int`, which stands at a token.
     fn declared(&self, at: usize, names: &[Declared]) -> Result<Option<BlockItem>, NoMemory>
         ensures { IfOk result (λ made. made ≡ spec.declared_by self.now.tokens.now self.now.depth at names.now) }
     {

@@ -8,7 +8,8 @@ ghost use Rattle.c_straight.specs.Straight.{IsStraight};
 use crate::items::{Reader, int_place, is_named, name_of};
 use crate::names::are_scoped;
 use crate::sums::operand;
-use c_model::{BlockItems, Operand, Program, Token};
+use c_model::{BlockItems, Operand, Program};
+use c_tokens::Token;
 use c_tree::{
     BaseWord, BlockItem, Declarator, Expression, External, Parameter, Specifier, Statement, Tree,
 };

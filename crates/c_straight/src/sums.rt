@@ -53,7 +53,7 @@ fn with_addend(mut sum: Sum, sign: Sign, operand: Operand) -> Result<Sum, NoMemo
     Ok(sum)
 }
 
-/// A sum of at most so many operands.
+/// A sum of at most a given number of operands.
 #[cycle(sum)]
 pub fn sum(alloc: Global, depth: usize, x: &Expression) -> Result<Option<Sum>, NoMemory>
     ensures { IfOk result (λ made. made ≡ spec.sum_of depth x.now) }
@@ -64,7 +64,7 @@ pub fn sum(alloc: Global, depth: usize, x: &Expression) -> Result<Option<Sum>, N
     sum_by(alloc, depth - 1, x)
 }
 
-/// A sum whose left operand is a sum of at most so many operands.
+/// A sum whose left operand is a sum of at most a given number of operands.
 #[cycle(sum)]
 fn sum_by(alloc: Global, depth: usize, x: &Expression) -> Result<Option<Sum>, NoMemory>
     ensures { IfOk result (λ made. made ≡ spec.sum_by (spec.sum_of depth) x.now) }

@@ -1,7 +1,9 @@
--- How deep the tokens of a text are nested, and which tokens are left out. It bounds how deep trees are.
-use Rattle.std.specs.Prelude.{ℕ, zero, suc, ◌+◌, ◌<◌, ◌≤◌, Bool, true, false, List, [], ◌∷◌, length, sum, Option, Some, None, slice_get}
-use Rattle.c_model.specs.declared.token.TokenKind.{TokenKind}
-use Rattle.c_model.specs.declared.token.TokenKind.TheVariants as token
+-- How deep the tokens of a text are nested, and which tokens are left out.
+use Rattle.std.specs.Prelude.{ℕ, zero, suc, ◌+◌, ◌<◌, ◌≤◌, Bool, List, [], ◌∷◌, length, sum, Option, Some, None, slice_get}
+use Rattle.std.specs.Option.{is_some}
+use Rattle.c_tokens.specs.Words.{left_out_text}
+use Rattle.c_tokens.specs.declared.token.TokenKind.{TokenKind}
+use Rattle.c_tokens.specs.declared.token.TokenKind.TheVariants as token
 
 -- ---- counts, the newest first
 
@@ -68,20 +70,4 @@ IsFirstDeeper limit kinds None = (n : ℕ) → n ≤ length kinds → depth_afte
 -- ---- what is left out
 
 abbrev pub is_left_out : TokenKind → Bool
-is_left_out token.Float = true
-is_left_out token.Double = true
-is_left_out token.Complex = true
-is_left_out token.Imaginary = true
-is_left_out token.Union = true
-is_left_out token.Goto = true
-is_left_out token.Asm = true
-is_left_out token.UnderscoredAsm = true
-is_left_out token.UnderscoreAsm = true
-is_left_out token.Generic = true
-is_left_out token.Atomic = true
-is_left_out token.ThreadLocal = true
-is_left_out token.Alignas = true
-is_left_out token.Alignof = true
-is_left_out token.StaticAssert = true
-is_left_out token.FloatingConstant = true
-is_left_out _ = false
+is_left_out kind = is_some (left_out_text kind)

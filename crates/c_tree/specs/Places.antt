@@ -1,7 +1,7 @@
 -- Places in the tokens of a text, and what the names mean there. Sections are those of ISO/IEC 9899:2011.
 use Rattle.std.specs.Prelude.{◌≡◌, ℕ, ◌+◌, Bool, true, false, List, [], ◌∷◌, Option, Some, None, slice_get, if◌then◌else◌}
 use Rattle.std.specs.Str.{bytes_eq}
-use Rattle.c_model.specs.declared.token.TokenKind.{TokenKind}
+use Rattle.c_tokens.specs.declared.token.TokenKind.{TokenKind}
 pub use Rattle.c_tree.specs.declared.scope.Entry.{Entry}
 
 -- the number of the next token; and what is declared there, block by block, the innermost block and the newest

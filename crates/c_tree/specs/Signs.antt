@@ -1,7 +1,7 @@
 -- The tokens that stand for operators and specifier words. Sections are those of ISO/IEC 9899:2011.
 use Rattle.std.specs.Prelude.{ℕ, Bool, true, false}
-use Rattle.c_model.specs.declared.token.TokenKind.{TokenKind}
-use Rattle.c_model.specs.declared.token.TokenKind.TheVariants as token
+use Rattle.c_tokens.specs.declared.token.TokenKind.{TokenKind}
+use Rattle.c_tokens.specs.declared.token.TokenKind.TheVariants as token
 use Rattle.c_tree.specs.declared.expression.Step.{Step}
 use Rattle.c_tree.specs.declared.expression.Step.TheVariants as step
 use Rattle.c_tree.specs.declared.expression.UnaryOperator.{UnaryOperator}

@@ -2,8 +2,8 @@
 -- Each relation goes from the place where its tokens begin to the place where they end.
 -- Sections are those of ISO/IEC 9899:2011.
 use Rattle.std.specs.Prelude.{ℕ, Bool, true, false, List, [], ◌∷◌, Option, Some, None}
-use Rattle.c_model.specs.declared.token.TokenKind.{TokenKind}
-use Rattle.c_model.specs.declared.token.TokenKind.TheVariants as token
+use Rattle.c_tokens.specs.declared.token.TokenKind.{TokenKind}
+use Rattle.c_tokens.specs.declared.token.TokenKind.TheVariants as token
 use Rattle.c_tree.specs.declared.expression.Expression.{Expression}
 use Rattle.c_tree.specs.declared.expression.Specifier.{Specifier}
 use Rattle.c_tree.specs.declared.expression.Declarator.{Declarator}

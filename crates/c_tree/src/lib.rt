@@ -1,8 +1,6 @@
 //! The trees of C texts, and the tokens that spell them.
 #![tactic(auto)]
 
-mod copied;
-mod copied_declaration;
 mod declaration;
 mod expression;
 mod scope;

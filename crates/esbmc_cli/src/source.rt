@@ -7,11 +7,9 @@ ghost use Rattle.kv_port.specs.Causes.{Rose};
 ghost use Rattle.kv_port.specs.Folder.{Lacks};
 ghost use Rattle.esbmc_cli.specs.Source.{Holds, HasFile};
 
+use c_tokens::MAX_BYTES;
 use kv_port::Files;
 use std::alloc::Global;
-
-/// The longest file that is read, in bytes.
-const MAX_BYTES: usize = 1_048_576;
 
 /// How many bytes are asked for at a time.
 const PIECE: usize = 4_096;
@@ -33,12 +31,12 @@ pub enum Unread {
 fn read_open<F: Files>(alloc: Global, files: &mut F) -> Result<Vec<u8>, Unread>
     requires { F.is_open files.old ≡ true }
     ensures content { IfOk result (λ bytes. ForSome (F.left files.old) (λ left. left ≡ bytes.items)) }
-    ensures size { IfOk result (λ bytes. length bytes.items ≤ 1048576) }
+    ensures size { IfOk result (λ bytes. length bytes.items ≤ MAX_BYTES) }
     ensures folder { F.told files.new ≡ F.told files.old }
     ensures later { F.faults files.old ≤ F.faults files.new }
     ensures fault { result ≡ Err Unread.Fault → Rose (F.faults files.old) (F.faults files.new) }
     ensures found { result ≡ Err Unread.Missing → ⊥ }
-    ensures too_long { result ≡ Err Unread.TooLong → ForSome (F.left files.old) (λ left. 1048576 < length left) }
+    ensures too_long { result ≡ Err Unread.TooLong → ForSome (F.left files.old) (λ left. MAX_BYTES < length left) }
 {
     let mut bytes = Vec::new(alloc);
     let mut buffer = [0u8; PIECE];
@@ -60,12 +58,12 @@ fn read_open<F: Files>(alloc: Global, files: &mut F) -> Result<Vec<u8>, Unread>
 /// The bytes of the named file.
 pub fn read_file<F: Files>(alloc: Global, files: &mut F, name: &str) -> Result<Vec<u8>, Unread>
     ensures content { IfOk result (λ bytes. Holds (F.told files.old) name.now bytes.items) }
-    ensures size { IfOk result (λ bytes. length bytes.items ≤ 1048576) }
+    ensures size { IfOk result (λ bytes. length bytes.items ≤ MAX_BYTES) }
     ensures folder { F.told files.new ≡ F.told files.old }
     ensures later { F.faults files.old ≤ F.faults files.new }
     ensures fault { result ≡ Err Unread.Fault → Rose (F.faults files.old) (F.faults files.new) }
     ensures missing { result ≡ Err Unread.Missing → Lacks (F.told files.old) name.now }
-    ensures too_long { result ≡ Err Unread.TooLong → HasFile (F.told files.old) name.now (λ source. 1048576 < length source) }
+    ensures too_long { result ≡ Err Unread.TooLong → HasFile (F.told files.old) name.now (λ source. MAX_BYTES < length source) }
 {
     match files.open(name) {
         Err(_) => Err(Unread::Fault),

@@ -18,7 +18,7 @@ fn words<R: Env + AllocGlobal>(rt: &R) -> io::Result<Vec<String>> {
 }
 
 /// Ends with the status of `run_alone`. Where the system hands over no words nothing is written, and the status
-/// is 8 for want of memory and else 13.
+/// is 8 where memory ran out and else 13.
 fn main(rt: HostRuntime) -> ExitCode {
     let words = match words(&rt) {
         Ok(words) => words,

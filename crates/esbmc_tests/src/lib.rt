@@ -5,6 +5,8 @@ ghost use Rattle.std.specs.Prelude.{◌≡◌, ◌<◌, IfOk, ◌∷◌, [], Som
 ghost use Rattle.kv_port.specs.MemFiles.{folder_of};
 
 #[cfg(test)]
+mod replays;
+#[cfg(test)]
 mod tests;
 
 use esbmc_cli::{Outcome, run_alone};
@@ -38,7 +40,7 @@ pub fn folder(
     Ok(MemFiles::new(alloc, files, failing))
 }
 
-/// A folder with one file, which gives at most so many bytes at each read.
+/// A folder with one file, which gives at most a given number of bytes at each read.
 pub fn in_pieces(
     alloc: Global,
     name: &[u8],

@@ -111,8 +111,23 @@ fn sinks_that_fail(rt: HostRuntime) -> Result<(), Fail> {
 #[test]
 fn refused_sources(rt: HostRuntime) -> Result<(), Fail> {
     let alloc = rt.alloc();
-    let cases: [(&[u8], &[u8]); 12] = [
+    let cases: [(&[u8], &[u8]); 15] = [
         (b"@", b"error: line 1: no token\n"),
+        // A C compiler reads on over this line end and skips `x=1;`.
+        (
+            b"int main(void){int x=0; // c \\\r\nx=1;\r\nassert(x==1);return 0;}\r\n",
+            b"error: line 1: no token\n",
+        ),
+        // A C compiler ends the comment at the carriage return and runs `x=0;`.
+        (
+            b"int main(void){int x=1; // c \rx=0;\nassert(x==1);return 0;}",
+            b"error: line 1: no token\n",
+        ),
+        // In C the wide constant is one token, here `L` would stand for `return`.
+        (
+            b"#define L return\nint main(void){L'a';}",
+            b"error: line 2: no token\n",
+        ),
         (b"int x;\n\n/* int y;", b"error: line 3: no token\n"),
         (b"#if 1", b"error: line 1: directive\n"),
         (
@@ -176,7 +191,7 @@ fn texts_that_end_early(rt: HostRuntime) -> Result<(), Fail> {
     Ok(())
 }
 
-/// What the program prints for so many equal bytes.
+/// What the program prints for a number of equal bytes.
 fn printed_for(alloc: Global, byte: u8, count: usize, printed: &[u8]) -> Result<bool, NoMemory> {
     let mut text = Vec::new(alloc);
     for _ in 0..count {
@@ -202,6 +217,48 @@ fn long_and_deep_sources(rt: HostRuntime) -> Result<(), Fail> {
     ];
     for (byte, count, printed) in cases {
         assert!(rt; printed_for(rt.alloc(), byte, count, printed)?);
+    }
+    Ok(())
+}
+
+/// What is nested 6,000 times: a head, what opens, what stands inside, what closes and an end.
+fn nested(
+    alloc: Global,
+    [head, opens, inside, closes, end]: [&[u8]; 5],
+) -> Result<Vec<u8>, NoMemory> {
+    let mut text = Vec::from_slice(alloc, head)?;
+    for _ in 0..6_000 {
+        text.extend_from_slice(opens)?;
+    }
+    text.extend_from_slice(inside)?;
+    for _ in 0..6_000 {
+        text.extend_from_slice(closes)?;
+    }
+    text.extend_from_slice(end)?;
+    Ok(text)
+}
+
+// These are below the count of nesting, and deeper than a stack may bear: out of memory.
+#[test]
+fn deep_trees(rt: HostRuntime) -> Result<(), Fail> {
+    let alloc = rt.alloc();
+    let cases: [[&[u8]; 5]; 2] = [
+        [b"int main(void){a=", b"a?a,", b"a?a:a", b",a:a", b";}"],
+        [
+            b"int main(void){",
+            b"if(a);else if(a)while(a)",
+            b";",
+            b"",
+            b"}",
+        ],
+    ];
+    for parts in cases {
+        let text = nested(alloc, parts)?;
+        let mut files = folder(alloc, b"a.c", text.as_slice(), &[])?;
+        let mut out = MemSink::new(alloc, Sequence::new(alloc));
+        let outcome = run_words(alloc, &["a.c"], &mut files, &mut out)?;
+        assert_eq!(rt; outcome.status, 8);
+        assert_eq!(rt; out.bytes(), b"".as_slice());
     }
     Ok(())
 }

@@ -2,8 +2,8 @@
 use Rattle.std.proofs.Common.{ℕ, ◌≡◌, ◌+◌, ◌*◌, ◌/◌, ◌%◌, ◌==◌, Bool, true, false, not, if◌then◌else◌, refl, sym, ap, ◌∙◌, arith, inl, inr}
 use Rattle.std.proofs.lemmas.Bool.{cases_eq, eq-eqb, ne_eqb}
 use Rattle.kv_num.specs.Bits.{differ}
-use Rattle.kv_clause.specs.Literals.{variable_of, is_complement_of, complement_of, is_true}
-use Rattle.kv_clause.proofs.Truths.{is_true-complement}
+use Rattle.sat_clause.specs.Literals.{variable_of, is_complement_of, complement_of, is_true}
+use Rattle.sat_clause.proofs.Truths.{is_true-complement}
 
 pub differ_self : (b : Bool) → differ b b ≡ false
 differ_self true = refl

@@ -6,7 +6,7 @@ use Rattle.std.proofs.lemmas.Bool.{cases_lt}
 use Rattle.std.proofs.lemmas.List.Folds.{list_any_at}
 use Rattle.std.specs.List.{list_any}
 use Rattle.indexmap.specs.IndexSet.{insert_key}
-use Rattle.kv_clause.specs.Literals.{variable_of, is_complement_of}
+use Rattle.sat_clause.specs.Literals.{variable_of, is_complement_of}
 use Rattle.gate_core.specs.declared.gate.Gate.{Gate}
 use Rattle.gate_core.specs.declared.gate.Gate.TheVariants.{False, Input, And, Xor}
 use Rattle.gate_core.specs.Table.{gate_at, IsVarying, IsOperand, IsGateOf, IsTable, Places}

@@ -2,8 +2,8 @@
 use Rattle.std.proofs.Common.{ℕ, zero, suc, ◌≡◌, ◌+◌, ◌/◌, ◌<◌, ◌≤◌, ◌==◌, ◌&&◌, List, length, Bool, true, false, if◌then◌else◌, refl, sym, ap, subst, ◌∙◌, arith, ⊎_elim}
 use Rattle.std.proofs.lemmas.Bool.{cases_lt, eq-eqb, ne_eqb}
 use Rattle.kv_num.specs.Bits.{differ}
-use Rattle.kv_clause.specs.Literals.{is_true, AgreeBelow}
-use Rattle.kv_clause.proofs.Truths.{literal_local}
+use Rattle.sat_clause.specs.Literals.{is_true, AgreeBelow}
+use Rattle.sat_clause.proofs.Truths.{literal_local}
 use Rattle.gate_core.specs.declared.gate.Gate.{Gate}
 use Rattle.gate_core.specs.declared.gate.Gate.TheVariants.{False, Input, And, Xor}
 use Rattle.gate_core.specs.Table.{gate_at, gate_value, IsGateOf, IsTable, IsInput, Agrees, OnInputs, HasTruths, HasOneTruth}

@@ -1,6 +1,6 @@
 -- Tables of gates. The gate at a place gives the variable of that number its truth.
 use Rattle.std.specs.Prelude.{ℕ, ◌≡◌, ◌+◌, ◌<◌, ◌≤◌, Bool, true, false, ◌&&◌, List, [], ◌∷◌, ◌++◌, ◌⊎◌, length, take, slice_index_or}
-use Rattle.kv_clause.specs.Literals.{variable_of, is_complement_of, is_true, AgreeBelow}
+use Rattle.sat_clause.specs.Literals.{variable_of, is_complement_of, is_true, AgreeBelow}
 use Rattle.kv_num.specs.Bits.{differ}
 use Rattle.gate_core.specs.declared.gate.Gate.{Gate}
 use Rattle.gate_core.specs.declared.gate.Gate.TheVariants.{False, Input, And, Xor}
@@ -74,3 +74,9 @@ HasTruths gs = (P : ℕ → Bool) → (A : ℕ → Bool) × Agrees A gs × OnInp
 -- and only those
 abbrev pub HasOneTruth : List Gate → Type 0
 HasOneTruth gs = (P A B : ℕ → Bool) → Agrees A gs → Agrees B gs → OnInputs gs P A → OnInputs gs P B → AgreeBelow (length gs) A B
+
+-- the places of the inputs, each of which is named by its own
+abbrev pub inputs_of : List Gate → List ℕ
+inputs_of [] = []
+inputs_of (Input n ∷ gs) = n ∷ inputs_of gs
+inputs_of (_ ∷ gs) = inputs_of gs

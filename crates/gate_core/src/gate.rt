@@ -1,4 +1,4 @@
-use kv_clause::Lit;
+use sat_clause::Lit;
 
 /// What gives a variable its truth: nothing that is ever true, an input, or a gate with two operands.
 #[derive(Clone, Copy, Debug, PartialEq, Eq, Hash, Drop)]

@@ -1,20 +1,21 @@
 ghost use Rattle.std.specs.Prelude.{◌≡◌, ◌≢◌, ◌<◌, ◌≤◌, ◌+◌, ◌*◌, ◌^◌, ℕ, Bool, false, ◌&&◌, [], ◌∷◌, ◌++◌, length, ◌⊎◌, ◌↔◌, IsTrue, IfOk, OnOk, OnErr, MatchOption, if◌then◌else◌};
 ghost use Rattle.kv_num.specs.Bits.{differ};
-ghost use Rattle.kv_clause.specs.Literals.{variable_of, complement_of, is_true};
+ghost use Rattle.sat_clause.specs.Literals.{variable_of, complement_of, is_true};
 ghost use Rattle.gate_core.specs.declared.gate.Gate.TheVariants as Gate;
-ghost use Rattle.gate_core.specs.Table.{gate_at, gate_value, Agrees, IsLitOf, IsVarying, IsGateOf, IsTable, Grows, Places, HasTruths, HasOneTruth};
+ghost use Rattle.gate_core.specs.Table.{gate_at, gate_value, Agrees, IsLitOf, IsVarying, IsGateOf, IsTable, Grows, Places, HasTruths, HasOneTruth, inputs_of};
 
 use crate::Gate;
 use indexmap::IndexSet;
-use kv_base::NoMemory;
-use kv_clause::Lit;
+use kv_base::{Copied, NoMemory, Sequence};
+use sat_clause::Lit;
 use std::alloc::{AllocError, Global};
 use std::marker::Model;
 
 /// No table is longer.
 const LIMIT: usize = 1 << 40;
 
-/// A list of gates, in which equal gates are shared. A table of 2^40 entries takes no more, and answers want of memory.
+/// A list of gates, in which equal gates are shared. A table of 2^40 entries takes no more, and answers that it is out of
+/// memory.
 #[derive(Drop)]
 pub struct Gates {
     gates: IndexSet<Gate>,
@@ -63,6 +64,18 @@ impl Gates {
         ensures { result ≡ gate_at self.now variable }
     {
         self.gates[variable as usize]
+    }
+
+    /// The places of the inputs, in their order.
+    #[tactic(auto, using(crate::proofs::Inputs::inputs_more))]
+    pub fn inputs(&self, alloc: Global) -> Result<Sequence<u64>, NoMemory>
+        ensures { IfOk result (λ places. places ≡ inputs_of self.now) }
+    {
+        let mut places = Sequence::new(alloc);
+        for at in 0..self.gates.len() {
+            push_input(&mut places, self.gate(at as u64))?;
+        }
+        Ok(places)
     }
 
     /// What every table keeps, and that a pattern of its inputs gives each of its variables one truth. This function
@@ -223,6 +236,23 @@ impl Gates {
         } else {
             self.literal(Gate::Xor(Lit::new(b, false), Lit::new(a, false)))
         }
+    }
+}
+
+impl Copied for Gates {
+    fn copy(&self, _alloc: Global) -> Result<Gates, NoMemory> {
+        let gates = self.gates.clone()?;
+        Ok(Gates { gates })
+    }
+}
+
+/// Puts the place of an input at the end.
+fn push_input(places: &mut Sequence<u64>, gate: Gate) -> Result<(), NoMemory>
+    ensures { OnOk result (places.new ≡ places.old ++ inputs_of (gate ∷ [])) }
+{
+    match gate {
+        Gate::Input(number) => places.push(number),
+        Gate::False | Gate::And(_, _) | Gate::Xor(_, _) => Ok(()),
     }
 }
 

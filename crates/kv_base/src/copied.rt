@@ -5,7 +5,7 @@ use std::alloc::Global;
 
 /// A value that can be kept in two places.
 pub trait Copied {
-    /// An equal value, or want of memory.
+    /// An equal value, or that memory ran out.
     fn copy(&self, alloc: Global) -> Result<Self, NoMemory>
         ensures { IfOk result (λ made. made ≡ self.now) };
 }

@@ -1,13 +1,13 @@
-//! What every crate stands on: want of memory, lists and stacks that contracts see as values, and copies.
+//! What every crate stands on: being out of memory, lists and stacks that contracts see as values, and copies.
 #![tactic(auto)]
 
 mod copied;
+mod exact;
 mod sequence;
 mod stack;
-#[cfg(test)]
-mod tests;
 
 pub use copied::Copied;
+pub use exact::Exact;
 pub use sequence::Sequence;
 pub use stack::Stack;
 pub use std::alloc::AllocError as NoMemory;

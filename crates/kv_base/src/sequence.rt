@@ -1,7 +1,7 @@
 ghost use Rattle.std.specs.Prelude.{◌≡◌, [], ◌∷◌, ◌++◌, ◌<◌, length, take, slice_get, slice_set, ◌↔◌, IsTrue, IfOk, MatchOption, OnOk, OnErr, OnSome};
 ghost use Rattle.std.specs.Option.{option_copied};
 
-use crate::{Copied, NoMemory};
+use crate::{Copied, Exact, NoMemory};
 use std::alloc::Global;
 use std::marker::Model;
 
@@ -145,4 +145,27 @@ impl<T: Copied + Drop> Copied for Sequence<T> {
         }
         Ok(made)
     }
+}
+
+impl<T: Exact> PartialEq for Sequence<T> {
+    ghost use Rattle.std.specs.Cmp.Lexicographic.{pointwise, lists_per};
+
+    ghost eq = { λ xs ys. pointwise T.eq xs ys };
+
+    ghost laws = { lists_per T.PartialEq.laws };
+
+    /// Whether two lists are equal.
+    fn eq(&self, other: &Self) -> bool
+        ensures gives { result ≡ pointwise T.eq self.now other.now }
+        ensures same { IsTrue result ↔ (self.now ≡ other.now) }
+    {
+        self.as_slice() == other.as_slice()
+    }
+}
+
+impl<T: Exact> Exact for Sequence<T> {
+    ghost use Rattle.std.specs.Prelude.{refl};
+    ghost use Rattle.std.proofs.lemmas.Slice.Eq.{slice_eq-Decides};
+
+    ghost decides = { λ xs ys. slice_eq-Decides T.decides xs ys _ refl };
 }

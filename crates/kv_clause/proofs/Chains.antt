@@ -2,14 +2,14 @@
 use Rattle.std.proofs.Common.{ℕ, zero, suc, ◌≡◌, ◌+◌, ◌-◌, ◌*◌, ◌<◌, ◌++◌, List, [], ◌∷◌, map, Bool, true, ◌||◌, refl, sym, ap, subst, ◌∙◌, arith, add-one, inl, inr}
 use Rattle.std.specs.List.{list_all}
 use Rattle.std.proofs.lemmas.Bool.{cases_eq}
-use Rattle.kv_clause.specs.Literals.{is_true, clause_holds, all_hold, complement_of, moved, MeetsAll, AreTrue, later}
+use Rattle.sat_clause.specs.Literals.{is_true, clause_holds, all_hold, complement_of, moved, MeetsAll, AreTrue, later, units}
 use Rattle.kv_clause.specs.Blocks.{stride, literal_in, block_of}
-use Rattle.kv_clause.specs.Queries.{blocks_of, arrivals, lits_of, bounds_at, bounds_before, breaks_last, leaves_set, units, query}
+use Rattle.kv_clause.specs.Queries.{blocks_of, arrivals, lits_of, bounds_at, bounds_before, breaks_last, leaves_set, query}
 use Rattle.kv_clause.specs.Chains.{MeetsArrivals, MeetsBreak, MeetsBreakUnder, MeetsLeaving}
 use Rattle.kv_clause.specs.declared.template.Template.{Template}
 use Rattle.kv_clause.specs.declared.bound.Bound.{Bound}
 use Rattle.kv_clause.specs.declared.query.Query.TheVariants.{Base, Forward, Step, First, Induct}
-use Rattle.kv_clause.proofs.Truths.{met_at, met_left, met_right, met_both, units_hold, true_left, true_right, true_both, literal_moved, literals_moved}
+use Rattle.sat_clause.proofs.Truths.{met_at, met_left, met_right, met_both, units_hold, true_left, true_right, true_both, literal_moved, literals_moved}
 use Rattle.kv_clause.proofs.Queries.{next_part, one_true, true_one, query_parts, query-from_parts, block_met, blocks_at, blocks-from_each, arrivals_at, arrivals-from_each, block_behind, literal_behind, blocks_behind, arrivals_behind}
 
 module _ (T : Template) where

@@ -1,6 +1,3 @@
 pub mod Chains
-pub mod Counting
-pub mod Propagation
 pub mod Queries
 pub mod Ranges
-pub mod Truths

@@ -2,12 +2,12 @@
 use Rattle.std.proofs.Common.{ℕ, zero, suc, ◌≡◌, ◌+◌, ◌-◌, ◌*◌, ◌/◌, ◌<◌, ◌≤◌, ◌++◌, List, [], ◌∷◌, map, Bool, true, false, ◌&&◌, refl, sym, ap, subst, ◌∙◌, arith, inl, inr, take, add-one}
 use Rattle.std.proofs.lemmas.Bool.{cases_eq}
 use Rattle.std.proofs.lemmas.List.Elements.{All-nil, All-append, All-map, All-weaker}
-use Rattle.kv_clause.specs.Literals.{variable_of, is_true, all_hold, MeetsAll, AreTrue, AreBelow, ClausesAreBelow, later, truths}
+use Rattle.sat_clause.specs.Literals.{variable_of, is_true, all_hold, MeetsAll, AreTrue, AreBelow, ClausesAreBelow, later, truths, units}
 use Rattle.kv_clause.specs.Blocks.{stride, literal_in, variable_in, block_of}
-use Rattle.kv_clause.specs.Queries.{blocks_of, vars_of, arrivals, units, fixed, asked, query}
+use Rattle.kv_clause.specs.Queries.{blocks_of, vars_of, arrivals, fixed, asked, query}
 use Rattle.kv_clause.specs.declared.template.Template.{Template}
 use Rattle.kv_clause.specs.declared.query.Query.{Query}
-use Rattle.kv_clause.proofs.Truths.{met_left, met_right, met_both, true_left, true_right, true_both, units_hold, all_moved, literal_moved, all_local, truths_cut}
+use Rattle.sat_clause.proofs.Truths.{met_left, met_right, met_both, true_left, true_right, true_both, units_hold, all_moved, literal_moved, all_local, truths_cut}
 
 -- an assignment meets a query where it meets the fixed clauses and the asked literals are true
 pub query_parts : (A : ℕ → Bool) (T : Template) (q : Query) → MeetsAll A (query T q) → MeetsAll A (fixed T q) × AreTrue A (asked T q)
@@ -60,7 +60,7 @@ module _ (T : Template) where
   pub arrivals_fewer : (A : ℕ → Bool) (k n : ℕ) → k ≤ n → AreTrue A (arrivals T n) → AreTrue A (arrivals T k)
   arrivals_fewer A k n h m = arrivals-from_each A k (λ i lt. arrivals_at A n m i (omega arith))
 
-  -- block i of what is left behind the first block is block i + 1 of the whole
+  -- block i of what is left after the first block is block i + 1 of the whole
   pub next_part : (A : ℕ → Bool) (i : ℕ) → later ((i + 1) * stride T) A ≡ later (i * stride T) (later (stride T) A)
   next_part A i = λ j v. ap A (further v (stride T)) j
     where
@@ -73,7 +73,7 @@ module _ (T : Template) where
   pub literal_behind : (A : ℕ → Bool) (i l : ℕ) → is_true (later (stride T) A) (literal_in T i l) ≡ is_true A (literal_in T (i + 1) l)
   literal_behind A i l = literal_moved (later (stride T) A) (i * stride T) l ∙ (ap (λ (B : ℕ → Bool). is_true B l) (sym (next_part A i)) ∙ sym (literal_moved A ((i + 1) * stride T) l))
 
-  -- the part of an assignment behind the first block meets one block less
+  -- the part of an assignment after the first block meets one block less
   pub blocks_behind : (A : ℕ → Bool) (k : ℕ) → MeetsAll A (blocks_of T (k + 1)) → MeetsAll (later (stride T) A) (blocks_of T k)
   blocks_behind A k m = blocks-from_each (later (stride T) A) k (λ i h. block_behind A i ∙ blocks_at A (k + 1) m (i + 1) (omega arith))
 

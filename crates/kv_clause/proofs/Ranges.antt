@@ -2,15 +2,15 @@
 use Rattle.std.proofs.Common.{ℕ, zero, suc, ◌≡◌, ◌+◌, ◌-◌, ◌*◌, ◌<◌, ◌≤◌, ◌++◌, List, [], ◌∷◌, map, subst, arith, add-one}
 use Rattle.std.specs.List.{All, filter}
 use Rattle.std.proofs.lemmas.List.Elements.{All-nil, All-cons, All-append, All-push, All-map, All-filter, All-weaker}
-use Rattle.kv_clause.specs.Literals.{variable_of, complement_of, AreBelow, ClausesAreBelow}
+use Rattle.sat_clause.specs.Literals.{variable_of, complement_of, AreBelow, ClausesAreBelow, units}
 use Rattle.kv_clause.specs.Blocks.{stride, literal_in}
-use Rattle.kv_clause.specs.Queries.{blocks_of, blocks_in, vars_of, arrivals, units, has_bound, lits_of, bounds_at, bounds_before, breaks_last, leaves_set, beginning_of, further_of, fixed, asked, query}
+use Rattle.kv_clause.specs.Queries.{blocks_of, blocks_in, vars_of, arrivals, has_bound, lits_of, bounds_at, bounds_before, breaks_last, leaves_set, beginning_of, further_of, fixed, asked, query}
 use Rattle.kv_clause.specs.declared.template.Template.{Template}
 use Rattle.kv_clause.specs.declared.bound.Bound.{Bound}
 use Rattle.kv_clause.specs.declared.bound.BoundLit.{BoundLit}
 use Rattle.kv_clause.specs.declared.query.Query.{Query}
 use Rattle.kv_clause.specs.declared.query.Query.TheVariants.{Base, Forward, Step, First, Induct, Closing}
-use Rattle.kv_clause.proofs.Truths.{complement_variable}
+use Rattle.sat_clause.proofs.Truths.{complement_variable}
 use Rattle.kv_clause.proofs.Queries.{literal_below, literals_below, more_below, blocks_below}
 
 pub below_more : (m n : ℕ) (ls : List ℕ) → m ≤ n → AreBelow m ls → AreBelow n ls
@@ -32,7 +32,7 @@ both_below n F G h k = All-append (AreBelow n) F G h k
 lits_both : (n : ℕ) (ks ls : List ℕ) → AreBelow n ks → AreBelow n ls → AreBelow n (ks ++ ls)
 lits_both n ks ls h k = All-append (λ l. variable_of l < n) ks ls h k
 
-lits_below : (n : ℕ) (cs : List BoundLit) (bs : List Bound) → All (λ c. variable_of c.lit < n) cs → AreBelow n (lits_of cs bs)
+pub lits_below : (n : ℕ) (cs : List BoundLit) (bs : List Bound) → All (λ c. variable_of c.lit < n) cs → AreBelow n (lits_of cs bs)
 lits_below n cs bs h = All-map (λ l. variable_of l < n) (λ (c : BoundLit). c.lit) (filter (λ c. has_bound bs c.bound) cs)
     (All-filter (λ c. has_bound bs c.bound) (λ (c : BoundLit). variable_of c.lit < n) cs h)
 
@@ -49,7 +49,7 @@ module _ (T : Template) where
       (All-push (λ l. variable_of l < vars_of T (k + 1)) (arrivals T k) (literal_in T k T.next) (below_more (vars_of T k) (vars_of T (k + 1)) (arrivals T k) (vars_more k (k + 1) (omega arith)) (arrivals_below k)) (literal_below T k T.next T.next_below))
 
   bounds_at_below : (bs : List Bound) (i : ℕ) → AreBelow (vars_of T (i + 1)) (bounds_at T bs i)
-  bounds_at_below bs i = let room = T.room in literals_below T i (lits_of T.bounds bs) (below_more T.state T.vars (lits_of T.bounds bs) (omega arith) (lits_below T.state T.bounds bs T.bounds_below))
+  bounds_at_below bs i = literals_below T i (lits_of T.bounds bs) (lits_below T.vars T.bounds bs T.bounds_below)
 
   bounds_before_below : (bs : List Bound) (k : ℕ) → AreBelow (vars_of T k) (bounds_before T bs k)
   bounds_before_below bs zero = All-nil (λ l. variable_of l < vars_of T zero)
@@ -65,10 +65,11 @@ module _ (T : Template) where
       (units_below (vars_of T 2) (arrivals T 1) (below_more (vars_of T 1) (vars_of T 2) (arrivals T 1) (vars_more 1 2 (omega arith)) (arrivals_below 1)))
       (one_below (vars_of T 2) (map complement_of (bounds_at T bs 1)) (complements_below (vars_of T 2) (bounds_at T bs 1) (bounds_at_below bs 1)))
 
-  state_below : (k : ℕ) (F : List (List ℕ)) → ClausesAreBelow T.state F → ClausesAreBelow (vars_of T k) F
-  state_below k F h = more_below T T.state (vars_of T k) F (omega arith) h
+  -- one block has the template's variables, and more blocks have more
+  first_below : (k : ℕ) (F : List (List ℕ)) → 1 ≤ k → ClausesAreBelow T.vars F → ClausesAreBelow (vars_of T k) F
+  first_below k F some h = let room = T.room in let more = vars_more 1 k some in more_below T T.vars (vars_of T k) F (omega arith) h
 
-  beginning_below : (q : Query) → ClausesAreBelow T.state (beginning_of T q)
+  beginning_below : (q : Query) → ClausesAreBelow T.vars (beginning_of T q)
   beginning_below (Base k) = T.start_below
   beginning_below (Forward k) = T.start_below
   beginning_below (Step k under) = T.head_below
@@ -86,11 +87,11 @@ module _ (T : Template) where
       (leaves_below bs)
   further_below (Closing k under) = All-nil (AreBelow (vars_of T k))
 
-  pub fixed_below : (q : Query) → ClausesAreBelow (vars_of T (blocks_in q)) (fixed T q)
-  fixed_below q =
+  pub fixed_below : (q : Query) → 1 ≤ blocks_in q → ClausesAreBelow (vars_of T (blocks_in q)) (fixed T q)
+  fixed_below q some =
       let n : ℕ = vars_of T (blocks_in q) in
       both_below n (beginning_of T q ++ blocks_of T (blocks_in q)) (further_of T q)
-      (both_below n (beginning_of T q) (blocks_of T (blocks_in q)) (state_below (blocks_in q) (beginning_of T q) (beginning_below q)) (blocks_below T (blocks_in q)))
+      (both_below n (beginning_of T q) (blocks_of T (blocks_in q)) (first_below (blocks_in q) (beginning_of T q) some (beginning_below q)) (blocks_below T (blocks_in q)))
       (further_below q)
 
   under_below : (bs : List Bound) (k : ℕ) → 1 ≤ k → AreBelow (vars_of T k) (bounds_before T bs k ++ breaks_last T k)
@@ -105,4 +106,4 @@ module _ (T : Template) where
   asked_below (Closing k under) h = under_below under k h
 
   pub query_below : (q : Query) → 1 ≤ blocks_in q → ClausesAreBelow (vars_of T (blocks_in q)) (query T q)
-  query_below q h = both_below (vars_of T (blocks_in q)) (fixed T q) (units (asked T q)) (fixed_below q) (units_below (vars_of T (blocks_in q)) (asked T q) (asked_below q h))
+  query_below q h = both_below (vars_of T (blocks_in q)) (fixed T q) (units (asked T q)) (fixed_below q h) (units_below (vars_of T (blocks_in q)) (asked T q) (asked_below q h))

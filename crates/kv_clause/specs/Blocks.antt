@@ -1,7 +1,7 @@
 -- The blocks of an unwinding. Block i has the template's clauses with each variable moved by i strides,
 -- so that the last `state` variables of a block are the first of the next.
 use Rattle.std.specs.Prelude.{ℕ, ◌+◌, ◌-◌, ◌*◌, List, map}
-use Rattle.kv_clause.specs.Literals.{moved}
+use Rattle.sat_clause.specs.Literals.{moved}
 use Rattle.kv_clause.specs.declared.template.Template.{Template}
 use Rattle.kv_clause.specs.declared.block.Block.{Block}
 

@@ -1,7 +1,7 @@
 -- What the queries say block by block: each block's clauses over its own part of the assignment, whose beginning is the
 -- end of the block before.
 use Rattle.std.specs.Prelude.{ℕ, zero, suc, ◌≡◌, Bool, true, List, map}
-use Rattle.kv_clause.specs.Literals.{is_true, clause_holds, complement_of, MeetsAll, AreTrue, later}
+use Rattle.sat_clause.specs.Literals.{is_true, clause_holds, complement_of, MeetsAll, AreTrue, later}
 use Rattle.kv_clause.specs.Blocks.{stride}
 use Rattle.kv_clause.specs.Queries.{lits_of}
 use Rattle.kv_clause.specs.declared.template.Template.{Template}

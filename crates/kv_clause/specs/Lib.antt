@@ -1,6 +1,6 @@
 pub mod Blocks
 pub mod Chains
-pub mod Literals
 pub mod Names
-pub mod Propagation
 pub mod Queries
+pub use Rattle.sat_clause.specs.Literals
+pub use Rattle.sat_clause.specs.Propagation

@@ -4,7 +4,8 @@ use Rattle.std.specs.Prelude.{ℕ, zero, suc, ◌+◌, ◌-◌, ◌*◌, Bool, �
 use mathlib.Core.Bool.{beq}
 use Rattle.std.specs.List.{list_any, filter}
 use Rattle.std.specs.Ordering.{int_eq}
-use Rattle.kv_clause.specs.Literals.{complement_of}
+use Rattle.sat_clause.specs.Literals.{complement_of, units}
+use Rattle.sat_clause.specs.Propagation.{Spent}
 use Rattle.kv_clause.specs.Blocks.{stride, literal_in, block_of}
 use Rattle.kv_clause.specs.declared.template.Template.{Template}
 use Rattle.kv_clause.specs.declared.bound.Bound.{Bound}
@@ -44,10 +45,6 @@ bounds_at T bs i = map (literal_in T i) (lits_of T.bounds bs)
 abbrev pub bounds_before : Template → List Bound → ℕ → List ℕ
 bounds_before T bs zero = []
 bounds_before T bs (suc k) = bounds_before T bs k ++ bounds_at T bs k
-
--- each literal as a clause of its own
-abbrev pub units : List ℕ → List (List ℕ)
-units ls = map (λ l. l ∷ []) ls
 
 -- blocks 0 to k - 2 arrive and block k - 1 breaks
 abbrev pub breaks_last : Template → ℕ → List ℕ
@@ -100,3 +97,7 @@ asked T (Closing k under) = bounds_before T under k ++ breaks_last T k
 -- all clauses of a query
 abbrev pub query : Template → Query → List (List ℕ)
 query T q = fixed T q ++ units (asked T q)
+
+-- a budget of clauses is spent on the fixed clauses of a query
+abbrev pub SpentAt : Template → Query → ℕ → List (List ℕ) → Type 0
+SpentAt T q B L = Spent (vars_of T (blocks_in q)) (fixed T q) B L

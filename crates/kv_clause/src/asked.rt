@@ -1,13 +1,13 @@
 ghost use Rattle.std.specs.Prelude.{◌≡◌, ◌+◌, ◌≤◌, ◌<◌, ◌^◌, ◌++◌, IfOk, OnOk, map};
-ghost use Rattle.kv_clause.specs.Literals.{variable_of};
+ghost use Rattle.sat_clause.specs.Literals.{variable_of, AreBelow};
 ghost use Rattle.kv_clause.specs.Blocks.{literal_in};
 ghost use Rattle.kv_clause.specs.Queries.{arrivals, asked, blocks_in, bounds_at, bounds_before, breaks_last, has_bound, lits_of};
 
 use crate::bound::{Bound, BoundLits, Bounds};
-use crate::literal::{Lit, Lits};
 use crate::query::Query;
 use crate::template::Template;
 use kv_base::{NoMemory, Sequence};
+use sat_clause::{Lit, Lits};
 use std::alloc::Global;
 
 /// The literals of a query that a solver may assume: which blocks arrive, which breaks, and which bounds hold. The
@@ -32,9 +32,10 @@ fn breaking_under(alloc: Global, t: &Template, under: &Bounds, k: u32) -> Result
     requires few { k ≤ 256 }
     ensures { IfOk result (λ ls. ls ≡ bounds_before t.now under.now k ++ breaks_last t.now k) }
 {
+    let bounds = bound_literals(alloc, t, under)?;
     let mut made = Sequence::new(alloc);
     for i in 0..k {
-        made.append(bounds_of_block(alloc, t, under, i)?)?;
+        made.append(in_block_each(alloc, t, i, &bounds)?)?;
     }
     made.append(breaking(alloc, t, k)?)?;
     Ok(made)
@@ -61,8 +62,8 @@ pub(crate) fn arriving(alloc: Global, t: &Template, k: u32) -> Result<Lits, NoMe
     Ok(made)
 }
 
-// What a literal of the template is in block i.
-fn in_block(t: &Template, i: u32, lit: Lit) -> Lit
+/// What a literal of the template is in block i.
+pub fn in_block(t: &Template, i: u32, lit: Lit) -> Lit
     requires near { i < 256 }
     requires below { variable_of lit < t.now.vars }
     ensures { result ≡ literal_in t.now i lit }
@@ -70,22 +71,39 @@ fn in_block(t: &Template, i: u32, lit: Lit) -> Lit
     lit.moved(u64::from(i) * (t.vars - t.state))
 }
 
-// The literals that say in block i that the bounds hold at its beginning.
-pub(crate) fn bounds_of_block(
-    alloc: Global,
-    t: &Template,
-    set: &Bounds,
-    i: u32,
-) -> Result<Lits, NoMemory>
+// What literals of the template are in block i.
+fn in_block_each(alloc: Global, t: &Template, i: u32, lits: &Lits) -> Result<Lits, NoMemory>
+    requires near { i < 256 }
+    requires below { AreBelow t.now.vars lits.now }
+    ensures { IfOk result (λ ls. ls ≡ map (literal_in t.now i) lits.now) }
+{
+    let mut made = Sequence::new(alloc);
+    for lit in lits.as_slice() {
+        made.push(in_block(t, i, *lit))?;
+    }
+    Ok(made)
+}
+
+/// The literals that say in block i that the bounds hold at its beginning, in the candidates' order.
+pub fn bounds_of_block(alloc: Global, t: &Template, set: &Bounds, i: u32) -> Result<Lits, NoMemory>
     requires { i < 256 }
     ensures { IfOk result (λ ls. ls ≡ bounds_at t.now set.now i) }
 {
+    let bounds = bound_literals(alloc, t, set)?;
+    let made = in_block_each(alloc, t, i, &bounds)?;
+    Ok(made)
+}
+
+// The literals of the candidates that stand in the set, in the candidates' order.
+fn bound_literals(alloc: Global, t: &Template, set: &Bounds) -> Result<Lits, NoMemory>
+    ensures value { IfOk result (λ ls. ls ≡ lits_of t.now.bounds set.now) }
+    ensures below { IfOk result (AreBelow t.now.vars) }
+{
     let mut made = Sequence::new(alloc);
     for candidate in t.bounds.as_slice() {
-        if !is_among(&candidate.bound, set) {
-            continue;
+        if is_among(&candidate.bound, set) {
+            made.push(candidate.lit)?;
         }
-        made.push(in_block(t, i, candidate.lit))?;
     }
     Ok(made)
 }

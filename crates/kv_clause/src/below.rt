@@ -1,34 +1,10 @@
 ghost use Rattle.std.specs.Prelude.{◌↔◌, ◌<◌, IsTrue};
 ghost use Rattle.std.specs.List.{All};
-ghost use Rattle.kv_clause.specs.Literals.{variable_of, AreBelow, ClausesAreBelow};
+ghost use Rattle.sat_clause.specs.Literals.{variable_of, AreBelow};
 
 use crate::bound::BoundLits;
-use crate::literal::{Clauses, Lits};
 use crate::template::Sites;
-
-/// Whether the variable of each literal is below `n`, as a template's type asks it of a site's bits.
-pub fn are_below(lits: &Lits, n: u64) -> bool
-    ensures { IsTrue result ↔ AreBelow n lits.now }
-{
-    for lit in lits.as_slice() {
-        if lit.variable() >= n {
-            return false;
-        }
-    }
-    true
-}
-
-/// Whether the variable of each literal of the clauses is below `n`, as a template's type asks it.
-pub fn clauses_are_below(clauses: &Clauses, n: u64) -> bool
-    ensures { IsTrue result ↔ ClausesAreBelow n clauses.now }
-{
-    for clause in clauses.as_slice() {
-        if !are_below(clause, n) {
-            return false;
-        }
-    }
-    true
-}
+use sat_clause::are_below;
 
 /// Whether the variable of each candidate's literal is below `n`, as a template's type asks it.
 pub fn bounds_are_below(bounds: &BoundLits, n: u64) -> bool

@@ -1,10 +1,10 @@
 ghost use Rattle.std.specs.Prelude.{◌≡◌, ◌≤◌, ◌<◌, ◌^◌, IfOk, map};
-ghost use Rattle.kv_clause.specs.Literals.{AreBelow, moved};
+ghost use Rattle.sat_clause.specs.Literals.{AreBelow, moved};
 ghost use Rattle.kv_clause.specs.Blocks.{block_of};
 
-use crate::literal::{Clause, Clauses};
 use crate::template::Template;
 use kv_base::{Copied, NoMemory, Sequence};
+use sat_clause::{Clause, Clauses};
 use std::alloc::Global;
 
 /// The clauses of one block of an unwinding, whose blocks count from 0.

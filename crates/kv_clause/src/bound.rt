@@ -1,5 +1,5 @@
-use crate::literal::Lit;
 use kv_base::{Copied, NoMemory, Sequence};
+use sat_clause::Lit;
 use std::alloc::Global;
 
 /// A fact at a loop head: the number in a cell is at least, or at most, a given one.
@@ -13,7 +13,7 @@ pub struct Bound {
 
 pub type Bounds = Sequence<Bound>;
 
-/// A bound, and the literal over a block's beginning that is true exactly where the bound is.
+/// A bound, and the literal that is true exactly where the bound holds at a block's beginning.
 #[derive(Clone, Copy, Debug, PartialEq, Eq, Drop)]
 pub struct BoundLit {
     pub bound: Bound,

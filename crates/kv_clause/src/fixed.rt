@@ -1,14 +1,14 @@
 ghost use Rattle.std.specs.Prelude.{◌≡◌, ◌+◌, ◌≤◌, ◌<◌, ◌++◌, ◌∷◌, [], IfOk, OnOk, map};
-ghost use Rattle.kv_clause.specs.Literals.{complement_of};
-ghost use Rattle.kv_clause.specs.Queries.{beginning_of, blocks_in, blocks_of, further_of, fixed, leaves_set, query, units, vars_of};
+ghost use Rattle.sat_clause.specs.Literals.{complement_of, units};
+ghost use Rattle.kv_clause.specs.Queries.{beginning_of, blocks_in, blocks_of, further_of, fixed, leaves_set, query, vars_of};
 
 use crate::asked::{arriving, asked_literals, bounds_of_block};
 use crate::blocks::Blocks;
 use crate::bound::Bounds;
-use crate::literal::{Clause, Clauses, Cnf, Lits};
 use crate::query::Query;
 use crate::template::Template;
 use kv_base::{Copied, NoMemory, Sequence};
+use sat_clause::{Clause, Clauses, Cnf, Lits};
 use std::alloc::Global;
 
 /// All clauses of a query over these blocks, and how many variables they have. The query has from 1 to 256 blocks, and

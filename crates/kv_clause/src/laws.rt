@@ -1,16 +1,15 @@
 //! Laws of the definitions that contracts here and above cite. Each call does nothing: its contract is the law.
 ghost use Rattle.std.specs.Prelude.{ℕ, suc, ◌≡◌, ◌+◌, ◌-◌, ◌^◌, ◌<◌, ◌≤◌, ◌++◌, ◌↔◌, Bool, true, List, take};
-ghost use Rattle.kv_clause.specs.Literals.{ClausesAreBelow, MeetsAll, AreTrue, clause_holds, later, truths};
+ghost use Rattle.sat_clause.specs.Literals.{ClausesAreBelow, MeetsAll, AreTrue, clause_holds, later, truths};
 ghost use Rattle.kv_clause.specs.Blocks.{stride, variable_in};
 ghost use Rattle.kv_clause.specs.Queries.{blocks_in, blocks_of, vars_of, fixed, asked, lits_of, query};
 ghost use Rattle.kv_clause.specs.declared.query.Query.TheVariants.{Base, Forward, Step, First, Induct, Closing};
 ghost use Rattle.kv_clause.specs.Chains.{MeetsArrivals, MeetsBreak, MeetsBreakUnder, MeetsLeaving};
-ghost use Rattle.kv_clause.specs.Propagation.{Follows, Refuted, Spent};
 
 use crate::bound::Bounds;
 use crate::query::Query;
 use crate::template::Template;
-use crate::truth::Assignment;
+use sat_clause::Assignment;
 
 /// The last `state` variables of a block are the first of the next.
 pub fn end_is_next_beginning(t: &Template)
@@ -27,31 +26,14 @@ pub fn longer_restricts(t: &Template, a: &Assignment)
     ensures { (k n : ℕ) → k ≤ n → MeetsAll (truths a.now) (blocks_of t.now n) → MeetsAll (truths (take (vars_of t.now k) a.now)) (blocks_of t.now k) }
 {}
 
-/// What is left of an assignment behind the first block meets the clauses of one block less.
+/// What is left of an assignment after the first block meets the clauses of one block less.
 pub fn rest_meets_the_rest(t: &Template)
     ensures { (A : ℕ → Bool) (k : ℕ) → MeetsAll A (blocks_of t.now (k + 1)) → MeetsAll (later (stride t.now) A) (blocks_of t.now k) }
-{}
-
-/// Where the clauses are true, so is each that follows from them by unit propagation, and refuted literals are not all true.
-pub fn propagation_is_sound()
-    ensures follows { (A : ℕ → Bool) (F : List (List ℕ)) (c : List ℕ) → MeetsAll A F → Follows F c → clause_holds A c ≡ true }
-    ensures refuted { (A : ℕ → Bool) (F : List (List ℕ)) (ls : List ℕ) → MeetsAll A F → Refuted F ls → AreTrue A ls → ⊥ }
-{}
-
-/// Further clauses keep what follows, and what is refuted.
-pub fn more_clauses_keep()
-    ensures follows { (F G : List (List ℕ)) (c : List ℕ) → Follows F c → Follows (F ++ G) c }
-    ensures refuted { (F G : List (List ℕ)) (ls : List ℕ) → Refuted F ls → Refuted (F ++ G) ls }
 {}
 
 /// The clauses of a query are over the variables of its blocks.
 pub fn query_is_over_its_blocks(t: &Template, q: &Query)
     ensures { 1 ≤ blocks_in q.now → ClausesAreBelow (vars_of t.now (blocks_in q.now)) (query t.now q.now) }
-{}
-
-/// Over n variables a budget of 3^n or more can't be spent.
-pub fn spent_budget_is_small()
-    ensures { (n budget : ℕ) (F log : List (List ℕ)) → Spent n F budget log → budget < 3 ^ n }
 {}
 
 /// From the start, k blocks arrive and the next breaks: an assignment meets the query exactly where it meets them one

@@ -7,13 +7,12 @@ use Rattle.std.proofs.Math.Nat.{mod-eq_of_lt}
 use Rattle.std.specs.Prelude.{bit_and, bit_or, bit_xor}
 use Rattle.std.specs.Int.{w128, bit_at}
 use borrow.Author.Differences.{fits_in, read_fits}
-use Rattle.kv_num.specs.declared.types.IntType.{IntType}
-use Rattle.kv_num.specs.IntType.{width_of, signed_of, size_of, InRange, wrap_of}
-use Rattle.kv_num.specs.Bits.{bit_of, differ, pattern_of, not_of}
-use Rattle.kv_num.proofs.Patterns.{low_bits-congruent, bit_of-low_bits, bit_of-wrap_of, bit_of-negsuc, bit_at-complement, pattern_most, same_from_bits_of, same_bit, flip}
+use Rattle.kv_num.specs.Shape.{InShape, wrap_at, bits_at, not_at, IsWidth}
+use Rattle.kv_num.specs.Bits.{bit_of, differ}
+use Rattle.kv_num.proofs.Shapes.{range-wrap_at}
+use Rattle.kv_num.proofs.Patterns.{low_bits-congruent, bit_of-low_bits, bit_of-wrap_at, bit_of-negsuc, bit_at-complement, bits_most, same_from_bits_of, same_bit, flip}
 use Rattle.kv_num.proofs.Signs.{below_from_bits, clear_above, high_bits, small_from_bits, natural_from_bits, mag_signed, signed_mag, natural_unsigned, unsigned_natural}
 use Rattle.kv_num.proofs.Held.{held, signed_congruent}
-use Rattle.kv_num.proofs.Range.{range-wrap_of}
 
 bit_of-to_z : (n k : ℕ) → n < 2 ^ 128 → k < 128 → bit_of (to_z w128 n) k ≡ (bit_at n k == 1)
 bit_of-to_z n k small h =
@@ -35,7 +34,7 @@ module _ (F : ℕ → ℕ → ℕ) (f : Bool → Bool → Bool) (each : (p q k :
   no_bit : (r : ℕ) → r < 2 → (r == 1) ≡ false → r ≡ 0
   no_bit r h e = same_bit r 0 h (omega arith) e
 
-  F_most : (w p q : ℕ) → p < 2 ^ w → q < 2 ^ w → F p q < 2 ^ w
+  pub F_most : (w p q : ℕ) → p < 2 ^ w → q < 2 ^ w → F p q < 2 ^ w
   F_most w p q hp hq = below_from_bits (F p q) w (λ k high. no_bit (bit_at (F p q) k) (bit_at-lt (F p q) k)
       (each p q k ∙ ((λ i. f (clear_above p w k hp high i) (clear_above q w k hq high i)) ∙ clear)))
 
@@ -54,35 +53,35 @@ module _ (F : ℕ → ℕ → ℕ) (f : Bool → Bool → Bool) (each : (p q k :
       ∙ (low_bit a b 127 fa fb (omega arith) ∙ sym (λ i. f (same_high a k fa (omega arith) i) (same_high b k fb (omega arith) i))))
       (cases_lt k 128)
 
-  range_by : (t : IntType) (a b r : ℤ) → InRange t a → InRange t b → ((k : ℕ) → bit_of r k ≡ f (bit_of a k) (bit_of b k)) → (s : Bool) → signed_of t ≡ s → InRange t r
-  range_by t a b r ia ib bits true e =
-      let h = width_of t - 1 in
-      signed_mag t r e (small_from_bits r h (λ k high.
-      bits k ∙ ((λ i. f (high_bits a h k h (mag_signed t a e ia) high (omega arith) i) (high_bits b h k h (mag_signed t b e ib) high (omega arith) i)) ∙ sym (bits h))))
-  range_by t a b r ia ib bits false e =
-      let na = natural_unsigned t a e ia in
-      let nb = natural_unsigned t b e ib in
-      let none : (z : ℤ) (m k : ℕ) → z ≡ pos m → m < size_of t → width_of t ≤ k → bit_of z k ≡ false = λ z m k is small high. ap (λ x. bit_of x k) is ∙ clear_above m (width_of t) k small high in
-      let nr = natural_from_bits r (width_of t) (λ k high. bits k ∙ ((λ i. f (none a na.0 k na.1 na.2 high i) (none b nb.0 k nb.1 nb.2 high i)) ∙ clear)) in
-      let P : ℤ → Type 0 = λ z. InRange t z in
-      subst P (sym nr.1) (unsigned_natural t nr.0 e nr.2)
+  range_by : (width : ℕ) (signed : Bool) (valid : IsWidth width) (a b r : ℤ) → InShape width signed a → InShape width signed b → ((k : ℕ) → bit_of r k ≡ f (bit_of a k) (bit_of b k)) → (s : Bool) → signed ≡ s → InShape width signed r
+  range_by width signed valid a b r ia ib bits true e =
+      let h = width - 1 in
+      signed_mag width signed valid r e (small_from_bits r h (λ k high.
+      bits k ∙ ((λ i. f (high_bits a h k h (mag_signed width signed valid a e ia) high (omega arith) i) (high_bits b h k h (mag_signed width signed valid b e ib) high (omega arith) i)) ∙ sym (bits h))))
+  range_by width signed valid a b r ia ib bits false e =
+      let na = natural_unsigned width signed a e ia in
+      let nb = natural_unsigned width signed b e ib in
+      let none : (z : ℤ) (m k : ℕ) → z ≡ pos m → m < 2 ^ width → width ≤ k → bit_of z k ≡ false = λ z m k is small high. ap (λ x. bit_of x k) is ∙ clear_above m width k small high in
+      let nr = natural_from_bits r width (λ k high. bits k ∙ ((λ i. f (none a na.0 k na.1 na.2 high i) (none b nb.0 k nb.1 nb.2 high i)) ∙ clear)) in
+      let P : ℤ → Type 0 = λ z. InShape width signed z in
+      subst P (sym nr.1) (unsigned_natural width signed nr.0 e nr.2)
 
-  pub range_is : (t : IntType) (a b : ℤ) → InRange t a → InRange t b → InRange t (to_z w128 (F (of_z w128 a) (of_z w128 b)))
-  range_is t a b ia ib = range_by t a b (to_z w128 (F (of_z w128 a) (of_z w128 b))) ia ib (bits_are a b (held t a ia) (held t b ib)) (signed_of t) refl
+  pub range_is : (width : ℕ) (signed : Bool) (valid : IsWidth width) (a b : ℤ) → InShape width signed a → InShape width signed b → InShape width signed (to_z w128 (F (of_z w128 a) (of_z w128 b)))
+  range_is width signed valid a b ia ib = range_by width signed valid a b (to_z w128 (F (of_z w128 a) (of_z w128 b))) ia ib (bits_are a b (held width signed valid a ia) (held width signed valid b ib)) signed refl
 
   -- the bits of the operation on patterns
-  pub pattern_bits : (t : IntType) (a b : ℤ) (k : ℕ) → k < width_of t → bit_of (wrap_of t (pos (F (pattern_of t a) (pattern_of t b)))) k ≡ f (bit_of a k) (bit_of b k)
-  pattern_bits t a b k h =
-      bit_of-wrap_of t (pos (F (pattern_of t a) (pattern_of t b))) k h
-      ∙ (each (pattern_of t a) (pattern_of t b) k ∙ sym (λ i. f (bit_of-low_bits (width_of t) a k h i) (bit_of-low_bits (width_of t) b k h i)))
+  pub pattern_bits : (width : ℕ) (signed : Bool) (a b : ℤ) (k : ℕ) → k < width → bit_of (wrap_at width signed (pos (F (bits_at width a) (bits_at width b)))) k ≡ f (bit_of a k) (bit_of b k)
+  pattern_bits width signed a b k h =
+      bit_of-wrap_at width signed (pos (F (bits_at width a) (bits_at width b))) k h
+      ∙ (each (bits_at width a) (bits_at width b) k ∙ sym (λ i. f (bit_of-low_bits width a k h i) (bit_of-low_bits width b k h i)))
 
-  pub value_is : (t : IntType) (a b : ℤ) → InRange t a → InRange t b → to_z w128 (F (of_z w128 a) (of_z w128 b)) ≡ wrap_of t (pos (F (pattern_of t a) (pattern_of t b)))
-  value_is t a b ia ib = same_from_bits_of t (to_z w128 (F (of_z w128 a) (of_z w128 b))) (wrap_of t (pos (F (pattern_of t a) (pattern_of t b)))) (range_is t a b ia ib) (range-wrap_of t (pos (F (pattern_of t a) (pattern_of t b))))
-      (λ k h. bits_are a b (held t a ia) (held t b ib) k ∙ sym (pattern_bits t a b k h))
+  pub value_is : (width : ℕ) (signed : Bool) (valid : IsWidth width) (a b : ℤ) → InShape width signed a → InShape width signed b → to_z w128 (F (of_z w128 a) (of_z w128 b)) ≡ wrap_at width signed (pos (F (bits_at width a) (bits_at width b)))
+  value_is width signed valid a b ia ib = same_from_bits_of width signed (to_z w128 (F (of_z w128 a) (of_z w128 b))) (wrap_at width signed (pos (F (bits_at width a) (bits_at width b)))) (range_is width signed valid a b ia ib) (range-wrap_at width signed (pos (F (bits_at width a) (bits_at width b))))
+      (λ k h. bits_are a b (held width signed valid a ia) (held width signed valid b ib) k ∙ sym (pattern_bits width signed a b k h))
 
   -- the same of the definition
-  pub bits_of_value : (t : IntType) (a b : ℤ) (k : ℕ) → InRange t a → InRange t b → bit_of (wrap_of t (pos (F (pattern_of t a) (pattern_of t b)))) k ≡ f (bit_of a k) (bit_of b k)
-  bits_of_value t a b k ia ib = ap (λ z. bit_of z k) (sym (value_is t a b ia ib)) ∙ bits_are a b (held t a ia) (held t b ib) k
+  pub bits_of_value : (width : ℕ) (signed : Bool) (valid : IsWidth width) (a b : ℤ) (k : ℕ) → InShape width signed a → InShape width signed b → bit_of (wrap_at width signed (pos (F (bits_at width a) (bits_at width b)))) k ≡ f (bit_of a k) (bit_of b k)
+  bits_of_value width signed valid a b k ia ib = ap (λ z. bit_of z k) (sym (value_is width signed valid a b ia ib)) ∙ bits_are a b (held width signed valid a ia) (held width signed valid b ib) k
 
 -- ---- the operations on one bit
 
@@ -124,12 +123,12 @@ each_xor p q k = ap (λ b. b == 1) (bit_at_xor p q k) ∙ xor_bit (bit_at p k) (
 
 -- ---- the complement
 
-pub complement_bits : (t : IntType) (a : ℤ) (k : ℕ) → k < width_of t → bit_of (not_of t a) k ≡ not (bit_of a k)
-complement_bits t a k h =
-    let p = pattern_of t a in
-    bit_of-wrap_of t (pos (size_of t - 1 - p)) k h
-    ∙ (ap (λ b. b == 1) (bit_at-complement (width_of t) p k (pattern_most t a) h)
-    ∙ (flip (bit_at p k) (bit_at-lt p k) ∙ ap not (sym (bit_of-low_bits (width_of t) a k h))))
+pub complement_bits : (width : ℕ) (signed : Bool) (a : ℤ) (k : ℕ) → k < width → bit_of (not_at width signed a) k ≡ not (bit_of a k)
+complement_bits width signed a k h =
+    let p = bits_at width a in
+    bit_of-wrap_at width signed (pos (2 ^ width - 1 - p)) k h
+    ∙ (ap (λ b. b == 1) (bit_at-complement width p k (bits_most width a) h)
+    ∙ (flip (bit_at p k) (bit_at-lt p k) ∙ ap not (sym (bit_of-low_bits width a k h))))
 
 negsuc_held : (n : ℕ) → n < 2 ^ 127 → to_z w128 (2 ^ 128 - 1 - n) ≡ negsuc n
 negsuc_held n h = let e : 2 ^ 128 - 1 - n ≡ 2 ^ 128 - suc n = omega arith in ap (to_z w128) e ∙ to_z-of_z w128 (negsuc n) (record { sfits = h })

@@ -1,15 +1,15 @@
 -- The bits of a number, and the number that they are without a sign.
-use Rattle.std.proofs.Common.{arith, ◌≡◌, ℕ, zero, suc, ◌+◌, ◌-◌, ◌*◌, ◌/◌, ◌%◌, ◌^◌, ◌<◌, not, ◌==◌, ℤ, pos, negsuc, ◌+ℤ◌, ◌*ℤ◌, refl, sym, ap, subst, ◌∙◌}
+use Rattle.std.proofs.Common.{arith, ◌≡◌, ℕ, zero, suc, ◌+◌, ◌-◌, ◌*◌, ◌/◌, ◌%◌, ◌^◌, ◌<◌, not, ◌==◌, ℤ, pos, negsuc, ◌+ℤ◌, ◌*ℤ◌, refl, sym, ap, subst, ◌∙◌, Bool}
 use Rattle.std.proofs.lemmas.Int.{ints}
 use Rattle.std.proofs.lemmas.Nat.{pow_pos, pow-add, shr_split, shr_high, shr_below, mod_below}
 use Rattle.std.proofs.lemmas.Nat.Bits.{bit_at_cat_low, bit_at-lt, same_from_bits_below}
 use Rattle.std.proofs.Math.Nat.{mul_comm}
 use Rattle.std.specs.Prelude.{unsigned_abs}
 use Rattle.std.specs.Int.{bit_at}
-use Rattle.kv_num.specs.declared.types.IntType.{IntType}
-use Rattle.kv_num.specs.IntType.{width_of, size_of, InRange, wrap_of}
-use Rattle.kv_num.specs.Bits.{bit_of, low_bits, pattern_of}
-use Rattle.kv_num.proofs.Congruence.{rem_congruent, rem_most, pos-rem, one_number, wrap_congruent, wrap_of-congruent, wrap_of-in_range}
+use Rattle.kv_num.specs.Shape.{InShape, wrap_at, bits_at}
+use Rattle.kv_num.specs.Bits.{bit_of, low_bits}
+use Rattle.kv_num.proofs.Shapes.{wrap_at_congruent, wrap_at-congruent, wrap_at-in_shape}
+use Rattle.kv_num.proofs.Congruence.{rem_congruent, rem_most, pos-rem, one_number}
 use Rattle.kv_num.proofs.Ring.{more_multiple}
 
 pub flip : (r : ℕ) → r < 2 → (1 - r == 1) ≡ not (r == 1)
@@ -80,25 +80,25 @@ low_bits-congruent w n m k e =
     one_pattern (low_bits w n) (low_bits w m) p.0 (q.0 +ℤ k) (2 ^ w) (rem_most n (2 ^ w) (pow_pos w)) (rem_most m (2 ^ w) (pow_pos w))
     (sym p.1 ∙ more_multiple n m (pos (low_bits w m)) q.0 k (pos (2 ^ w)) e q.1)
 
-pub pattern_most : (t : IntType) (n : ℤ) → pattern_of t n < size_of t
-pattern_most t n = rem_most n (size_of t) (pow_pos (width_of t))
+pub bits_most : (width : ℕ) (n : ℤ) → bits_at width n < 2 ^ width
+bits_most width n = rem_most n (2 ^ width) (pow_pos width)
 
-pub pattern_of-wrap_of : (t : IntType) (n : ℤ) → pattern_of t (wrap_of t n) ≡ pattern_of t n
-pattern_of-wrap_of t n = let c = wrap_congruent t n in sym (low_bits-congruent (width_of t) n (wrap_of t n) c.0 c.1)
+pub bits_at-wrap_at : (width : ℕ) (signed : Bool) (n : ℤ) → bits_at width (wrap_at width signed n) ≡ bits_at width n
+bits_at-wrap_at width signed n = let c = wrap_at_congruent width signed n in sym (low_bits-congruent width n (wrap_at width signed n) c.0 c.1)
 
 -- the number that a bit pattern is in a type
-pub wrap_of-pattern_of : (t : IntType) (n : ℤ) → wrap_of t (pos (pattern_of t n)) ≡ wrap_of t n
-wrap_of-pattern_of t n = let c = low_bits_congruent (width_of t) n in sym (wrap_of-congruent t n (pos (pattern_of t n)) c.0 c.1)
+pub wrap_at-bits_at : (width : ℕ) (signed : Bool) (n : ℤ) → wrap_at width signed (pos (bits_at width n)) ≡ wrap_at width signed n
+wrap_at-bits_at width signed n = let c = low_bits_congruent width n in sym (wrap_at-congruent width signed n (pos (bits_at width n)) c.0 c.1)
 
 -- to wrap a number keeps its bits below the width
-pub bit_of-wrap_of : (t : IntType) (n : ℤ) (k : ℕ) → k < width_of t → bit_of (wrap_of t n) k ≡ bit_of n k
-bit_of-wrap_of t n k h =
-    bit_of-low_bits (width_of t) (wrap_of t n) k h ∙ (ap (λ m. bit_at m k == 1) (pattern_of-wrap_of t n) ∙ sym (bit_of-low_bits (width_of t) n k h))
+pub bit_of-wrap_at : (width : ℕ) (signed : Bool) (n : ℤ) (k : ℕ) → k < width → bit_of (wrap_at width signed n) k ≡ bit_of n k
+bit_of-wrap_at width signed n k h =
+    bit_of-low_bits width (wrap_at width signed n) k h ∙ (ap (λ m. bit_at m k == 1) (bits_at-wrap_at width signed n) ∙ sym (bit_of-low_bits width n k h))
 
 -- two numbers of a type with the same bits are equal
-pub same_from_bits_of : (t : IntType) (a b : ℤ) → InRange t a → InRange t b → ((k : ℕ) → k < width_of t → bit_of a k ≡ bit_of b k) → a ≡ b
-same_from_bits_of t a b ia ib each =
-    let same : pattern_of t a ≡ pattern_of t b = same_from_bits_below (width_of t) (pattern_of t a) (pattern_of t b) (pattern_most t a) (pattern_most t b)
-    (λ k h. same_bit (bit_at (pattern_of t a) k) (bit_at (pattern_of t b) k) (bit_at-lt (pattern_of t a) k) (bit_at-lt (pattern_of t b) k)
-    (sym (bit_of-low_bits (width_of t) a k h) ∙ (each k h ∙ bit_of-low_bits (width_of t) b k h))) in
-    sym (wrap_of-in_range t a ia) ∙ (sym (wrap_of-pattern_of t a) ∙ (ap (λ n. wrap_of t (pos n)) same ∙ (wrap_of-pattern_of t b ∙ wrap_of-in_range t b ib)))
+pub same_from_bits_of : (width : ℕ) (signed : Bool) (a b : ℤ) → InShape width signed a → InShape width signed b → ((k : ℕ) → k < width → bit_of a k ≡ bit_of b k) → a ≡ b
+same_from_bits_of width signed a b ia ib each =
+    let same : bits_at width a ≡ bits_at width b = same_from_bits_below width (bits_at width a) (bits_at width b) (bits_most width a) (bits_most width b)
+    (λ k h. same_bit (bit_at (bits_at width a) k) (bit_at (bits_at width b) k) (bit_at-lt (bits_at width a) k) (bit_at-lt (bits_at width b) k)
+    (sym (bit_of-low_bits width a k h) ∙ (each k h ∙ bit_of-low_bits width b k h))) in
+    sym (wrap_at-in_shape width signed a ia) ∙ (sym (wrap_at-bits_at width signed a) ∙ (ap (λ n. wrap_at width signed (pos n)) same ∙ (wrap_at-bits_at width signed b ∙ wrap_at-in_shape width signed b ib)))

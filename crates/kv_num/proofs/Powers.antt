@@ -1,14 +1,13 @@
 -- Products with powers of 2, and quotients by them.
-use Rattle.std.proofs.Common.{arith, ◌≡◌, ℕ, ◌+◌, ◌-◌, ◌*◌, ◌/◌, ◌%◌, ◌^◌, ◌<◌, ◌==◌, false, ℤ, pos, negsuc, ◌+ℤ◌, ◌*ℤ◌, ◌≤ℤ◌, ◌<ℤ◌, sym, ap, subst, ◌∙◌}
+use Rattle.std.proofs.Common.{arith, ◌≡◌, ℕ, ◌+◌, ◌-◌, ◌*◌, ◌/◌, ◌%◌, ◌^◌, ◌<◌, ◌==◌, false, ℤ, pos, negsuc, ◌+ℤ◌, ◌*ℤ◌, ◌≤ℤ◌, ◌<ℤ◌, sym, ap, subst, ◌∙◌, Bool}
 use Rattle.std.proofs.lemmas.Int.{ints}
 use Rattle.std.proofs.lemmas.Nat.{pow_pos, pow-add, shr-shr, shl-shr, shr_split, mod_below, shr_high, shr_le}
 use Rattle.std.specs.Prelude.{unsigned_abs}
 use Rattle.std.specs.Int.{int_rem_euclid}
-use Rattle.kv_num.specs.declared.types.IntType.{IntType}
-use Rattle.kv_num.specs.IntType.{InRange, wrap_of}
+use Rattle.kv_num.specs.Shape.{InShape, wrap_at, IsWidth}
 use Rattle.kv_num.specs.Shift.{left_of, right_of}
 use Rattle.kv_num.specs.Bits.{bit_of}
-use Rattle.kv_num.proofs.Congruence.{wrap_of-mul_left}
+use Rattle.kv_num.proofs.Shapes.{wrap_at-mul_left}
 use Rattle.kv_num.proofs.Range.{range_over_zero, range_under_zero}
 use Rattle.kv_num.proofs.Ring.{times-add, times-times}
 
@@ -30,8 +29,8 @@ right_of-right_of (negsuc n) d e = ap negsuc (shr-shr n d e)
 pub left_of-left_of : (a : ℤ) (d e : ℕ) → left_of (left_of a d) e ≡ left_of a (d + e)
 left_of-left_of a d e = times-times a (pos (2 ^ d)) (pos (2 ^ e)) ∙ ap (λ n. a *ℤ pos n) (sym (pow-add 2 d e))
 
-pub wrap_of-left_of : (t : IntType) (a : ℤ) (d : ℕ) → wrap_of t (left_of (wrap_of t a) d) ≡ wrap_of t (left_of a d)
-wrap_of-left_of t a d = wrap_of-mul_left t a (pos (2 ^ d))
+pub wrap_at-left_of : (width : ℕ) (signed : Bool) (a : ℤ) (d : ℕ) → wrap_at width signed (left_of (wrap_at width signed a) d) ≡ wrap_at width signed (left_of a d)
+wrap_at-left_of width signed a d = wrap_at-mul_left width signed a (pos (2 ^ d))
 
 under_multiple : (n s : ℕ) → 0 < s → negsuc n *ℤ pos s ≡ negsuc (n * s + (s - 1))
 under_multiple n s h = omega (arith, ints)
@@ -43,9 +42,9 @@ right_of-left_of (negsuc n) d =
     let s = pow_pos d in
     ap (λ z. right_of z d) (under_multiple n (2 ^ d) s) ∙ ap negsuc (shr_high n d (2 ^ d - 1) (omega arith))
 
-pub range-right_of : (t : IntType) (a : ℤ) (d : ℕ) → InRange t a → InRange t (right_of a d)
-range-right_of t (pos n) d is = range_over_zero t (pos n) (pos (n / 2 ^ d)) is (omega (arith, ints)) (omega (arith, ints, shr_le n d))
-range-right_of t (negsuc n) d is = range_under_zero t (negsuc n) (negsuc (n / 2 ^ d)) is (omega (arith, ints, shr_le n d)) (omega (arith, ints))
+pub range-right_of : (width : ℕ) (signed : Bool) (valid : IsWidth width) (a : ℤ) (d : ℕ) → InShape width signed a → InShape width signed (right_of a d)
+range-right_of width signed valid (pos n) d is = range_over_zero width signed (pos n) (pos (n / 2 ^ d)) is (omega (arith, ints)) (omega (arith, ints, shr_le n d))
+range-right_of width signed valid (negsuc n) d is = range_under_zero width signed valid (negsuc n) (negsuc (n / 2 ^ d)) is (omega (arith, ints, shr_le n d)) (omega (arith, ints))
 
 -- ---- the bits of shifted numbers
 

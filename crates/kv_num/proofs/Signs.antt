@@ -9,11 +9,10 @@ use Rattle.std.proofs.lemmas.Bool.Decides.{nat_tests}
 use Rattle.std.specs.Prelude.{IsTrue, int_lt}
 use Rattle.std.specs.Int.{bit_at}
 use lib.Signed.{mag}
-use Rattle.kv_num.specs.declared.types.IntType.{IntType}
-use Rattle.kv_num.specs.IntType.{width_of, signed_of, size_of, below_of, InRange}
+use Rattle.kv_num.specs.Shape.{below_at, InShape, IsWidth}
 use Rattle.kv_num.specs.Bits.{bit_of}
 use Rattle.kv_num.proofs.Patterns.{same_bit, bit_at-mod, bit_of-negsuc}
-use Rattle.kv_num.proofs.Range.{width_least}
+use Rattle.kv_num.proofs.Range.{half}
 
 self_below_pow : (n : ℕ) → n < 2 ^ n
 self_below_pow zero = omega arith
@@ -23,7 +22,7 @@ far : (h n : ℕ) → n < 2 ^ (h + n)
 far h n =
     let s = self_below_pow n in
     let p = pow_pos h in
-    let t : 1 * 2 ^ n ≤ 2 ^ h * 2 ^ n = mul-le-mul_right (2 ^ n) p in
+    let m : 1 * 2 ^ n ≤ 2 ^ h * 2 ^ n = mul-le-mul_right (2 ^ n) p in
     omega (arith, pow-add 2 h n)
 
 -- a number that has no bit from h on is below 2 ^ h
@@ -72,12 +71,6 @@ natural_from_bits (negsuc n) h none = absurd (false≢true (sym (none (h + n) (o
 
 -- ---- the ranges by absolute values
 
-half : (w : ℕ) → 0 < w → 2 ^ w ≡ 2 ^ (w - 1) + 2 ^ (w - 1)
-half zero h = absurd (omega arith)
-half (suc w) h =
-    let e : suc w - 1 ≡ w = omega arith in
-    pow-suc 2 w ∙ (ap (λ n. n * 2) (ap (λ n. 2 ^ n) (sym e)) ∙ omega arith)
-
 mag_in : (n : ℤ) (b s c : ℕ) → c ≡ b → s ≡ b + b → pos 0 ≤ℤ (n +ℤ pos c) → (n +ℤ pos c) <ℤ pos s → mag n < b
 mag_in (pos n) b s c p q h k = omega (arith, ints)
 mag_in (negsuc n) b s c p q h k = omega (arith, ints)
@@ -93,20 +86,20 @@ natural_in (negsuc n) s c p h k = absurd (omega (arith, ints))
 in_natural : (m s c : ℕ) → c ≡ 0 → m < s → (pos 0 ≤ℤ (pos m +ℤ pos c)) × ((pos m +ℤ pos c) <ℤ pos s)
 in_natural m s c p h = (omega (arith, ints), omega (arith, ints))
 
-pub below_by : (t : IntType) (b : Bool) → signed_of t ≡ b → below_of t ≡ (if b then 2 ^ (width_of t - 1) else 0)
-below_by t b e = ap (λ (s : Bool). if s then 2 ^ (width_of t - 1) else 0) e
+pub below_by : (width : ℕ) (signed : Bool) (b : Bool) → signed ≡ b → below_at width signed ≡ (if b then 2 ^ (width - 1) else 0)
+below_by width signed b e = ap (λ (s : Bool). if s then 2 ^ (width - 1) else 0) e
 
-pub mag_signed : (t : IntType) (n : ℤ) → signed_of t ≡ true → InRange t n → mag n < 2 ^ (width_of t - 1)
-mag_signed t n e is = mag_in n (2 ^ (width_of t - 1)) (size_of t) (below_of t) (below_by t true e) (half (width_of t) (width_least t)) is.least is.most
+pub mag_signed : (width : ℕ) (signed : Bool) (valid : IsWidth width) (n : ℤ) → signed ≡ true → InShape width signed n → mag n < 2 ^ (width - 1)
+mag_signed width signed valid n e is = mag_in n (2 ^ (width - 1)) (2 ^ width) (below_at width signed) (below_by width signed true e) (half width valid.some) is.least is.most
 
-pub signed_mag : (t : IntType) (n : ℤ) → signed_of t ≡ true → mag n < 2 ^ (width_of t - 1) → InRange t n
-signed_mag t n e h = let r = in_mag n (2 ^ (width_of t - 1)) (size_of t) (below_of t) (below_by t true e) (half (width_of t) (width_least t)) h in record { least = r.0; most = r.1 }
+pub signed_mag : (width : ℕ) (signed : Bool) (valid : IsWidth width) (n : ℤ) → signed ≡ true → mag n < 2 ^ (width - 1) → InShape width signed n
+signed_mag width signed valid n e h = let r = in_mag n (2 ^ (width - 1)) (2 ^ width) (below_at width signed) (below_by width signed true e) (half width valid.some) h in record { least = r.0; most = r.1 }
 
-pub natural_unsigned : (t : IntType) (n : ℤ) → signed_of t ≡ false → InRange t n → (m : ℕ) × (n ≡ pos m) × (m < size_of t)
-natural_unsigned t n e is = natural_in n (size_of t) (below_of t) (below_by t false e) is.least is.most
+pub natural_unsigned : (width : ℕ) (signed : Bool) (n : ℤ) → signed ≡ false → InShape width signed n → (m : ℕ) × (n ≡ pos m) × (m < 2 ^ width)
+natural_unsigned width signed n e is = natural_in n (2 ^ width) (below_at width signed) (below_by width signed false e) is.least is.most
 
-pub unsigned_natural : (t : IntType) (m : ℕ) → signed_of t ≡ false → m < size_of t → InRange t (pos m)
-unsigned_natural t m e h = let r = in_natural m (size_of t) (below_of t) (below_by t false e) h in record { least = r.0; most = r.1 }
+pub unsigned_natural : (width : ℕ) (signed : Bool) (m : ℕ) → signed ≡ false → m < 2 ^ width → InShape width signed (pos m)
+unsigned_natural width signed m e h = let r = in_natural m (2 ^ width) (below_at width signed) (below_by width signed false e) h in record { least = r.0; most = r.1 }
 
 -- ---- the bits from the width on
 
@@ -117,11 +110,11 @@ sign_by (pos n) h k small high = clear_above n h k small high ∙ sym (never n)
     never n = grind (arith, nat_tests)
 sign_by (negsuc n) h k small high = set_above n h k small high
 
-pub sign_bits : (t : IntType) (a : ℤ) (k : ℕ) → InRange t a → signed_of t ≡ true → width_of t ≤ k + 1 → bit_of a k ≡ int_lt a (pos 0)
-sign_bits t a k is e high = sign_by a (width_of t - 1) k (mag_signed t a e is) (omega arith)
+pub sign_bits : (width : ℕ) (signed : Bool) (valid : IsWidth width) (a : ℤ) (k : ℕ) → InShape width signed a → signed ≡ true → width ≤ k + 1 → bit_of a k ≡ int_lt a (pos 0)
+sign_bits width signed valid a k is e high = sign_by a (width - 1) k (mag_signed width signed valid a e is) (omega arith)
 
-pub unsigned_bits : (t : IntType) (a : ℤ) (k : ℕ) → InRange t a → signed_of t ≡ false → width_of t ≤ k → bit_of a k ≡ false
-unsigned_bits t a k is e high = let m = natural_unsigned t a e is in ap (λ z. bit_of z k) m.1 ∙ clear_above m.0 (width_of t) k m.2 high
+pub unsigned_bits : (width : ℕ) (signed : Bool) (a : ℤ) (k : ℕ) → InShape width signed a → signed ≡ false → width ≤ k → bit_of a k ≡ false
+unsigned_bits width signed a k is e high = let m = natural_unsigned width signed a e is in ap (λ z. bit_of z k) m.1 ∙ clear_above m.0 width k m.2 high
 
 pub is_false : (b : Bool) → IsTrue (not b) → b ≡ false
 is_false true h = absurd (false≢true h)

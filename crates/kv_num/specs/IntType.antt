@@ -1,8 +1,8 @@
--- The integer types of C as ranges of whole numbers. Sections are those of ISO/IEC 9899:2011.
-use Rattle.std.specs.Prelude.{ℕ, ◌-◌, ◌^◌, Bool, true, false, ℤ, pos, ◌+ℤ◌, ◌-ℤ◌, ◌≤ℤ◌, ◌<ℤ◌, if◌then◌else◌}
-use Rattle.std.specs.Int.{int_rem_euclid}
+-- The integer types of C, each by its width and its signedness. Sections are those of ISO/IEC 9899:2011.
+use Rattle.std.specs.Prelude.{ℕ, ◌^◌, Bool, true, false, ℤ}
 use Rattle.kv_num.specs.declared.types.IntType.{IntType}
 use Rattle.kv_num.specs.declared.types.IntType.TheVariants.{Bool as B, Char, SChar, UChar, Short, UShort, Int, UInt, Long32, ULong32, Long, ULong, LongLong, ULongLong}
+use Rattle.kv_num.specs.Shape.{below_at, InShape, wrap_at, bits_at, and_at, or_at, xor_at, not_at}
 
 -- how many bits a type has, with its sign bit (6.2.6.2)
 abbrev pub width_of : IntType → ℕ
@@ -42,15 +42,31 @@ signed_of ULongLong = false
 abbrev pub size_of : IntType → ℕ
 size_of t = 2 ^ width_of t
 
--- how many of them are negative: half, in two's complement (6.2.6.2)
+-- how many of them are negative (6.2.6.2)
 abbrev pub below_of : IntType → ℕ
-below_of t = if signed_of t then 2 ^ (width_of t - 1) else 0
+below_of t = below_at (width_of t) (signed_of t)
 
 -- the number is in the type's range (5.2.4.2.1)
-pub record InRange (t : IntType) (n : ℤ) : Type 0 where
-  pub least : pos 0 ≤ℤ (n +ℤ pos (below_of t))
-  pub most : (n +ℤ pos (below_of t)) <ℤ pos (size_of t)
+abbrev pub InRange : IntType → ℤ → Type 0
+InRange t n = InShape (width_of t) (signed_of t) n
 
 -- the number of the type's range that equals n modulo the type's size (6.3.1.3)
 abbrev pub wrap_of : IntType → ℤ → ℤ
-wrap_of t n = int_rem_euclid (n +ℤ pos (below_of t)) (pos (size_of t)) -ℤ pos (below_of t)
+wrap_of t n = wrap_at (width_of t) (signed_of t) n
+
+-- the bits of a number of a type, read as a number without a sign
+abbrev pub pattern_of : IntType → ℤ → ℕ
+pattern_of t a = bits_at (width_of t) a
+
+-- the bitwise operations (6.5.3.3, 6.5.10 to 6.5.12)
+abbrev pub and_of : IntType → ℤ → ℤ → ℤ
+and_of t a b = and_at (width_of t) (signed_of t) a b
+
+abbrev pub or_of : IntType → ℤ → ℤ → ℤ
+or_of t a b = or_at (width_of t) (signed_of t) a b
+
+abbrev pub xor_of : IntType → ℤ → ℤ → ℤ
+xor_of t a b = xor_at (width_of t) (signed_of t) a b
+
+abbrev pub not_of : IntType → ℤ → ℤ
+not_of t a = not_at (width_of t) (signed_of t) a

@@ -1,48 +1,56 @@
-ghost use Rattle.std.specs.Prelude.{◌≡◌, ◌<◌, ◌&&◌, ◌||◌, not, ℕ};
-ghost use Rattle.kv_num.specs.IntType.{width_of, InRange};
-ghost use Rattle.kv_num.specs.Bits.{bit_of, differ, and_of, or_of, xor_of, not_of};
+ghost use Rattle.std.specs.Prelude.{◌≡◌, ◌<◌, ◌≤◌, ◌&&◌, ◌||◌, not, ℕ};
+ghost use Rattle.kv_num.specs.Shape.{InShape, and_at, or_at, xor_at, not_at};
+ghost use Rattle.kv_num.specs.Bits.{bit_of, differ};
 
-use crate::{IntType, wrap};
+use crate::wraps::wrap_at;
 
-/// The bits that two numbers of a type have both (6.5.10).
-pub fn bit_and(t: IntType, a: i128, b: i128) -> i128
-    requires left { InRange t a }
-    requires right { InRange t b }
-    ensures value { result ≡ and_of t a b }
-    ensures range { InRange t result }
+/// The bits that two numbers of a shape have both (6.5.10).
+pub fn bit_and_at(width: u32, signed: bool, a: i128, b: i128) -> i128
+    requires some { 0 < width }
+    requires few { width ≤ 64 }
+    requires left { InShape width signed a }
+    requires right { InShape width signed b }
+    ensures value { result ≡ and_at width signed a b }
+    ensures range { InShape width signed result }
     ensures bits { (k : ℕ) → bit_of result k ≡ (bit_of a k && bit_of b k) }
 {
     a & b
 }
 
-/// The bits that one of two numbers of a type has, or both (6.5.12).
-pub fn bit_or(t: IntType, a: i128, b: i128) -> i128
-    requires left { InRange t a }
-    requires right { InRange t b }
-    ensures value { result ≡ or_of t a b }
-    ensures range { InRange t result }
+/// The bits that one of two numbers of a shape has, or both (6.5.12).
+pub fn bit_or_at(width: u32, signed: bool, a: i128, b: i128) -> i128
+    requires some { 0 < width }
+    requires few { width ≤ 64 }
+    requires left { InShape width signed a }
+    requires right { InShape width signed b }
+    ensures value { result ≡ or_at width signed a b }
+    ensures range { InShape width signed result }
     ensures bits { (k : ℕ) → bit_of result k ≡ (bit_of a k || bit_of b k) }
 {
     a | b
 }
 
-/// The bits that one of two numbers of a type has, and not both (6.5.11).
-pub fn bit_xor(t: IntType, a: i128, b: i128) -> i128
-    requires left { InRange t a }
-    requires right { InRange t b }
-    ensures value { result ≡ xor_of t a b }
-    ensures range { InRange t result }
+/// The bits that one of two numbers of a shape has, and not both (6.5.11).
+pub fn bit_xor_at(width: u32, signed: bool, a: i128, b: i128) -> i128
+    requires some { 0 < width }
+    requires few { width ≤ 64 }
+    requires left { InShape width signed a }
+    requires right { InShape width signed b }
+    ensures value { result ≡ xor_at width signed a b }
+    ensures range { InShape width signed result }
     ensures bits { (k : ℕ) → bit_of result k ≡ differ (bit_of a k) (bit_of b k) }
 {
     a ^ b
 }
 
-/// The bits of a type that a number of it has not (6.5.3.3).
-pub fn bit_not(t: IntType, a: i128) -> i128
-    requires { InRange t a }
-    ensures value { result ≡ not_of t a }
-    ensures range { InRange t result }
-    ensures bits { (k : ℕ) → k < width_of t → bit_of result k ≡ not (bit_of a k) }
+/// The bits of a shape that a number of it has not (6.5.3.3).
+pub fn bit_not_at(width: u32, signed: bool, a: i128) -> i128
+    requires some { 0 < width }
+    requires few { width ≤ 64 }
+    requires of { InShape width signed a }
+    ensures value { result ≡ not_at width signed a }
+    ensures range { InShape width signed result }
+    ensures bits { (k : ℕ) → k < width → bit_of result k ≡ not (bit_of a k) }
 {
-    wrap(t, !a)
+    wrap_at(width, signed, !a)
 }

@@ -5,10 +5,10 @@ ghost use Rattle.std.specs.Prelude.{◌≡◌, ◌≢◌, ◌<◌, ◌≤◌, �
 ghost use Rattle.std.specs.Prelude.{ℤ, pos, neg_ℤ, ◌+ℤ◌, ◌-ℤ◌, ◌*ℤ◌, ◌≤ℤ◌, ◌<ℤ◌, int_lt, unsigned_abs};
 ghost use Rattle.std.specs.Int.{bit_at};
 ghost use Rattle.kv_num.specs.declared.types.IntType.{IntType};
-ghost use Rattle.kv_num.specs.IntType.{width_of, signed_of, size_of, InRange, wrap_of};
+ghost use Rattle.kv_num.specs.IntType.{width_of, signed_of, size_of, InRange, wrap_of, pattern_of, and_of, or_of, xor_of, not_of};
 ghost use Rattle.kv_num.specs.Quotient.{quotient_of, remainder_of, IsLeastByMinusOne};
 ghost use Rattle.kv_num.specs.Shift.{left_of, right_of};
-ghost use Rattle.kv_num.specs.Bits.{bit_of, differ, low_bits, pattern_of, and_of, or_of, xor_of, not_of};
+ghost use Rattle.kv_num.specs.Bits.{bit_of, differ, low_bits};
 
 /// `wrap` gives a number that is congruent to the one given, and it is the only such number of the
 /// type's range.

@@ -64,7 +64,7 @@ impl MemSink {
         self.held.as_slice()
     }
 
-    // How many of so many bytes there is room for.
+    // How many of the given number of bytes there is room for.
     fn taken(&self, wanted: usize) -> usize
         ensures { MatchOption self.now.limit (result ≡ wanted) (λ n. result ≡ min wanted (n - length self.now.held.items)) }
     {

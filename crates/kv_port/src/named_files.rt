@@ -67,7 +67,7 @@ pub(crate) fn begin(files: &[NamedFile], name: &[u8]) -> Option<Place>
     }
 }
 
-// Reads on from a place: at most so many bytes, and one or more unless the file ends there.
+// Reads on from a place: at most a given number of bytes, and one or more unless the file ends there.
 pub(crate) fn read_on(files: &[NamedFile], place: &mut Place, most: usize, buf: &mut [u8]) -> usize
     requires there { place.old.file < length files.now }
     requires some { 0 < most }

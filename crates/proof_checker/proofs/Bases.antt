@@ -1,19 +1,20 @@
-use Rattle.std.proofs.Common.{ℕ, zero, suc, ◌≡◌, ◌≢◌, ◌+◌, ◌/◌, ◌<◌, ◌≤◌, ◌++◌, inl, inr, List, [], ◌∷◌, map, length, get_or, take, Bool, true, false, refl, sym, ap, subst, ◌∙◌, arith}
+use Rattle.std.proofs.Common.{ℕ, zero, suc, ◌≡◌, ◌≢◌, ◌+◌, ◌/◌, ◌<◌, ◌++◌, inl, inr, List, [], ◌∷◌, map, length, get_or, take, Bool, true, false, refl, sym, ap, subst, ◌∙◌, arith}
 use Rattle.std.specs.List.{Contains}
 use Rattle.std.proofs.lemmas.Bool.{cases_lt, false≢true}
 use Rattle.std.proofs.lemmas.List.{length-map, get_or-map, length_push, get_or_append_left, get_or_push, take-append-le, take_all, take-take}
-use Rattle.kv_clause.specs.Literals.{complement_of}
-use Rattle.kv_clause.specs.Propagation.{clause_at, Derived, given, unit, Conflict, Refuted, Follows}
-use Rattle.kv_clause.proofs.Truths.{complement_twice, complement_variable}
-use Rattle.kv_clause.proofs.Propagation.{Refuted-both, Conflict-more, HasAll-append}
+use Rattle.sat_clause.specs.Literals.{complement_of}
+use Rattle.sat_clause.specs.Propagation.{clause_at, Derived, given, unit, Conflict, Refuted, Follows}
+use Rattle.sat_clause.proofs.Truths.{complement_twice, complement_variable}
+use Rattle.sat_clause.proofs.Propagation.{Refuted-both, Conflict-more, HasAll-append}
 use Rattle.sat_engine.specs.declared.trail.Reason.{Reason}
 use Rattle.sat_engine.specs.declared.trail.Reason.TheVariants.{Free, Assumed, Clause}
 use Rattle.sat_engine.specs.declared.trail.Step.{Step}
 use Rattle.sat_engine.specs.Trail.{none_step, IsSet, IsTrail, lit_at, reason_at, IsReason}
-use Rattle.sat_engine.specs.Look.{AreFalse, InRange, AreInRange}
+use Rattle.sat_engine.specs.Look.{AreFalse}
 use Rattle.sat_engine.specs.Grow.{Grows, IsImplied}
 use Rattle.sat_engine.proofs.Trails.{lit_at-push, lit_at-last}
 use Rattle.sat_engine.proofs.Growing.{AreReasons-grown, IsReason-same, same_to}
+use Rattle.sat_engine.proofs.Ranges.{AreReasons-more}
 use Rattle.proof_checker.specs.Base.{IsBase, IsFront, AreSet}
 use Rattle.proof_checker.specs.Scan.{Closes}
 use Rattle.proof_checker.proofs.Scans.{not_refuted}
@@ -155,27 +156,7 @@ set_grow F xs ys truth after place here m t u g h =
 
 -- a further clause keeps the trail
 pub IsBase-more : (F : List (List ℕ)) (c : List ℕ) (A : List ℕ) (steps : List Step) → IsBase F A steps → IsBase (F ++ c ∷ []) A steps
-IsBase-more F c A steps b = record { chosen = b.chosen; reasons = λ i lt. more i (reason_at steps i) (b.reasons i lt) }
-  where
-    more : (i : ℕ) (r : Reason) → IsReason F A steps i r → IsReason (F ++ c ∷ []) A steps i r
-    more i Free h = h
-    more i Assumed h = h
-    more i (Clause m) h =
-        let e : clause_at (F ++ c ∷ []) m ≡ clause_at F m = get_or_append_left F (c ∷ []) [] m h.0 in
-        let a = h.0 in (
-          omega (arith, length_push F c),
-          subst (λ (x : List ℕ). Contains x (lit_at steps i)) (sym e) h.1,
-          λ k w ne. h.2 k (subst (λ (x : List ℕ). Contains x k) e w) ne,
-        )
-
-pub AreInRange-push : (F : List (List ℕ)) (c : List ℕ) (n : ℕ) → AreInRange F n → InRange c n → AreInRange (F ++ c ∷ []) n
-AreInRange-push F c n all one i lt = elim (cases_lt i (length F)) [
-  | inl below ↦ subst (λ (x : List ℕ). InRange x n) (sym (get_or_append_left F (c ∷ []) [] i below)) (all i below)
-  | inr above ↦ subst (λ (x : List ℕ). InRange x n) (sym (get_or_push F c [] i (omega (arith, length_push F c)))) one
-]
-
-pub AreInRange-wider : (F : List (List ℕ)) (m n : ℕ) → m ≤ n → AreInRange F m → AreInRange F n
-AreInRange-wider F m n le all i lt k h = let r = all i lt k h in omega arith
+IsBase-more F c A steps b = record { chosen = b.chosen; reasons = AreReasons-more F c A steps b.reasons }
 
 pub Conflict-push : (F : List (List ℕ)) (c : List ℕ) → Conflict F [] → Conflict (F ++ c ∷ []) []
 Conflict-push F c k = Conflict-more F (F ++ c ∷ []) [] [] (HasAll-append F (c ∷ [])) (λ l h. h) k

@@ -2,13 +2,13 @@
 use Rattle.std.proofs.Common.{ℕ, zero, suc, ◌≡◌, ◌+◌, ◌-◌, ◌<◌, ◌≤◌, ◌++◌, inl, inr, List, [], ◌∷◌, length, get_or, take, Bool, true, false, refl, sym, ap, subst, ◌∙◌, append_assoc, below_more, arith}
 use Rattle.std.proofs.lemmas.Bool.{cases_lt, false≢true}
 use Rattle.std.proofs.lemmas.List.{get_or-take, take_more, get_or_default, get_or_append_left, get_or-append_right, length-append, length-take-le}
-use Rattle.kv_clause.specs.Literals.{MeetsAll, clause_holds}
-use Rattle.kv_clause.specs.Propagation.{clause_at, Conflict, Follows}
-use Rattle.kv_clause.proofs.Truths.{met_at, met-from_each}
-use Rattle.kv_clause.proofs.Propagation.{Conflict-more, Follows-sound}
+use Rattle.sat_clause.specs.Literals.{MeetsAll, clause_holds}
+use Rattle.sat_clause.specs.Propagation.{clause_at, Conflict, Follows}
+use Rattle.sat_clause.proofs.Truths.{met_at, met-from_each}
+use Rattle.sat_clause.proofs.Propagation.{Conflict-more, Follows-sound}
 use Rattle.proof_checker.specs.Checking.{StepFollows, FollowsTo, NoneEmptyTo, IsRefutation, IsLearnt, IsFirstBad}
 
--- the clauses and the first m steps stand in the same places where more steps come behind them
+-- the clauses and the first m steps stand in the same places where more steps come after them
 same_at : (F L : List (List ℕ)) (m n : ℕ) → m ≤ n → n ≤ length L → (i : ℕ) → i < length (F ++ take m L) → clause_at (F ++ take n L) i ≡ clause_at (F ++ take m L) i
 same_at F L m n le within i lt = elim (cases_lt i (length F)) [
   | inl below ↦ get_or_append_left F (take n L) [] i below ∙ sym (get_or_append_left F (take m L) [] i below)
@@ -29,7 +29,7 @@ empty_conflict F c e f = elim (subst (Follows F) e f) [
   | inr h ↦ absurd (omega (arith, h.1.1))
 ]
 
--- behind an empty step that follows, all follow
+-- after an empty step that follows, all follow
 all_behind : (F L : List (List ℕ)) (m n : ℕ) → m ≤ n → n ≤ length L → clause_at L m ≡ [] → StepFollows F L m → StepFollows F L n
 all_behind F L m n le within e f =
     inl (Conflict-more (F ++ take m L) (F ++ take n L) [] _ (has_all F L m n le within) (λ l h. absurd (omega (arith, h.1))) (empty_conflict (F ++ take m L) (clause_at L m) e f))

@@ -1,14 +1,15 @@
 -- What keeps the working parts ready.
 use Rattle.std.proofs.Common.{ℕ, ◌≡◌, ◌<◌, ◌≤◌, ◌++◌, List, [], ◌∷◌, length, true, sym, ap, subst, ◌∙◌, arith}
 use Rattle.std.proofs.lemmas.List.{length_push}
-use Rattle.kv_clause.specs.Propagation.{Conflict}
+use Rattle.sat_clause.specs.Propagation.{Conflict}
 use Rattle.sat_engine.specs.declared.trail.Step.{Step}
 use Rattle.sat_engine.specs.Look.{InRange, AreInRange}
 use Rattle.sat_engine.specs.Grow.{Grows}
 use Rattle.proof_checker.specs.Base.{IsBase}
 use Rattle.proof_checker.specs.Parts.{IsReady}
 use Rattle.proof_checker.specs.declared.parts.Parts.{Parts}
-use Rattle.proof_checker.proofs.Bases.{IsBase-grow, IsBase-more, AreInRange-push, AreInRange-wider, Conflict-push}
+use Rattle.proof_checker.proofs.Bases.{IsBase-grow, IsBase-more, Conflict-push}
+use Rattle.sat_engine.proofs.Ranges.{AreInRange-push, AreInRange-wider}
 
 -- room for further variables
 pub IsReady-wider : (p q : Parts) → q.store ≡ p.store → q.trail.steps.items ≡ p.trail.steps.items → length p.trail.truth.items ≤ length q.trail.truth.items → q.is_refuted ≡ p.is_refuted → IsReady p → IsReady q

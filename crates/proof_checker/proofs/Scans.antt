@@ -1,8 +1,8 @@
 use Rattle.std.proofs.Common.{ℕ, ◌≢◌, ◌<◌, inl, inr, List, length, Bool, None, sym, subst, ◌∙◌}
 use Rattle.std.proofs.lemmas.Bool.{cases_eq}
-use Rattle.kv_clause.specs.Literals.{complement_of}
-use Rattle.kv_clause.specs.Propagation.{clause_at, Refuted}
-use Rattle.kv_clause.proofs.Propagation.{IsClosed, Refuted-closed}
+use Rattle.sat_clause.specs.Literals.{complement_of}
+use Rattle.sat_clause.specs.Propagation.{clause_at, Refuted}
+use Rattle.sat_clause.proofs.Propagation.{IsClosed, Refuted-closed}
 use Rattle.sat_engine.specs.Trail.{IsSet}
 use Rattle.sat_engine.specs.Look.{AreFalse, AreFalseBut}
 use Rattle.sat_engine.proofs.Trails.{each_Contains}

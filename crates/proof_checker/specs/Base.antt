@@ -1,7 +1,7 @@
 -- A trail that stands on clauses and given literals.
 use Rattle.std.specs.Prelude.{ℕ, ◌≡◌, ◌≢◌, ◌<◌, ◌≤◌, List, length, take, Bool, true, false}
 use Rattle.std.specs.List.{Contains}
-use Rattle.kv_clause.specs.Propagation.{Refuted}
+use Rattle.sat_clause.specs.Propagation.{Refuted}
 use Rattle.sat_engine.specs.declared.trail.Reason.TheVariants.{Free}
 use Rattle.sat_engine.specs.declared.trail.Step.{Step}
 use Rattle.sat_engine.specs.Trail.{AreReasons, reason_at, IsSet}

@@ -1,6 +1,6 @@
 -- What a log of clauses L shows over the clauses F.
 use Rattle.std.specs.Prelude.{ℕ, ◌≡◌, ◌≢◌, ◌<◌, ◌++◌, List, [], length, take}
-use Rattle.kv_clause.specs.Propagation.{clause_at, Follows}
+use Rattle.sat_clause.specs.Propagation.{clause_at, Follows}
 use Rattle.proof_checker.specs.declared.verdict.Checked.{Checked}
 use Rattle.proof_checker.specs.declared.verdict.Checked.TheVariants.{Refutes, Learns, Bad}
 

@@ -1,5 +1,5 @@
 pub mod Base
 pub mod Checking
-pub mod Kept
+pub mod Known
 pub mod Parts
 pub mod Scan

@@ -1,6 +1,6 @@
 -- What the checker's working parts keep between its calls.
 use Rattle.std.specs.Prelude.{◌≡◌, ◌<◌, [], length, true}
-use Rattle.kv_clause.specs.Propagation.{Conflict}
+use Rattle.sat_clause.specs.Propagation.{Conflict}
 use Rattle.sat_engine.specs.Look.{AreInRange}
 use Rattle.proof_checker.specs.Base.{IsBase}
 use Rattle.proof_checker.specs.declared.parts.Parts.{Parts}

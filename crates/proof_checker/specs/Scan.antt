@@ -1,7 +1,7 @@
 use Rattle.std.specs.Prelude.{ℕ, ◌≢◌, ◌<◌, ◌⊎◌, List, length, slice_index, Option, None, Some, Bool, true, false}
 use Rattle.std.specs.List.{Contains}
-use Rattle.kv_clause.specs.Literals.{complement_of}
-use Rattle.kv_clause.specs.Propagation.{clause_at}
+use Rattle.sat_clause.specs.Literals.{complement_of}
+use Rattle.sat_clause.specs.Propagation.{clause_at}
 use Rattle.sat_engine.specs.Trail.{IsSet}
 use Rattle.sat_engine.specs.Look.{AreFalse, AreFalseBut}
 use Rattle.proof_checker.specs.declared.scan.Class.{Class}

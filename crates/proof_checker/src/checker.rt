@@ -1,12 +1,13 @@
-ghost use Rattle.std.specs.Prelude.{◌≡◌, ◌↔◌, ◌++◌, ◌∷◌, [], true, false, IsTrue, IsErr, IfOk, OnOk, OnErr, if◌then◌else◌};
-ghost use Rattle.kv_clause.specs.Propagation.{Follows, Refuted};
+ghost use Rattle.std.specs.Prelude.{◌≡◌, ◌↔◌, ◌++◌, ◌∷◌, [], map, true, false, IsTrue, IsErr, IfOk, OnOk, OnErr, if◌then◌else◌};
+ghost use Rattle.sat_clause.specs.Literals.{complement_of};
+ghost use Rattle.sat_clause.specs.Propagation.{Follows, Refuted};
 ghost use Rattle.proof_checker.specs.Parts.{IsReady};
 
-use crate::narrow::{complements, narrow};
 use crate::parts::{Parts, empty, fit, insert, refuted};
 use crate::tiers::Origin;
 use kv_base::NoMemory;
-use kv_clause::{Clause, Lits};
+use sat_clause::{Clause, Lits};
+use sat_engine::{complement, narrow};
 use std::alloc::Global;
 use std::marker::Model;
 
@@ -21,9 +22,9 @@ pub struct Checker {
 
 impl Model for Checker {
     ghost use Rattle.std.specs.Prelude.{◌≡◌, false};
-    ghost use Rattle.proof_checker.specs.Kept.{Kept};
+    ghost use Rattle.proof_checker.specs.Known.{Known};
 
-    ghost Value = { Kept };
+    ghost Value = { Known };
 
     ghost use Rattle.proof_checker.specs.Parts.{IsReady};
 
@@ -32,6 +33,18 @@ impl Model for Checker {
     ghost invariant = { λ c. c.is_refused ≡ false → IsReady c.parts };
 }
 
+/// The complements of the literals.
+fn complements(alloc: Global, lits: &[u32]) -> Result<Vec<u32>, NoMemory>
+    ensures { IfOk result (λ made. made.items ≡ map complement_of lits.now) }
+{
+    let mut made = Vec::with_capacity(alloc, lits.len())?;
+    for lit in lits {
+        made.push(complement(*lit))?;
+    }
+    Ok(made)
+}
+
+/// Adds a clause to the parts.
 fn add_to(alloc: Global, parts: &mut Parts, origin: Origin, clause: &Clause) -> Result<(), NoMemory>
     requires { IsReady parts.old }
     ensures ready { OnOk result (IsReady parts.new) }
@@ -42,6 +55,7 @@ fn add_to(alloc: Global, parts: &mut Parts, origin: Origin, clause: &Clause) -> 
     insert(alloc, parts, origin, lits.as_slice())
 }
 
+/// Whether propagating the asked literals over the clauses refutes them.
 fn refuted_in(alloc: Global, parts: &mut Parts, asked: &[u32]) -> Result<bool, NoMemory>
     requires { IsReady parts.old }
     ensures exact { IfOk result (λ b. IsTrue b ↔ Refuted parts.old.store asked.now) }
@@ -52,6 +66,7 @@ fn refuted_in(alloc: Global, parts: &mut Parts, asked: &[u32]) -> Result<bool, N
     refuted(alloc, parts, asked)
 }
 
+/// Whether the clause follows from the clauses by propagation.
 fn follows_in(alloc: Global, parts: &mut Parts, clause: &Clause) -> Result<bool, NoMemory>
     requires { IsReady parts.old }
     ensures exact { IfOk result (λ b. IsTrue b ↔ Follows parts.old.store clause.now) }

@@ -1,6 +1,6 @@
 //! Laws of what a check answers. Each call does nothing: its contract is the law.
 ghost use Rattle.std.specs.Prelude.{ℕ, Bool, List};
-ghost use Rattle.kv_clause.specs.Literals.{MeetsAll};
+ghost use Rattle.sat_clause.specs.Literals.{MeetsAll};
 ghost use Rattle.proof_checker.specs.Checking.{IsRefutation, IsFirstBad, IsLearnt};
 
 /// Where a log refutes clauses, no assignment meets them.

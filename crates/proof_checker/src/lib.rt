@@ -7,7 +7,6 @@
 
 mod checker;
 pub mod laws;
-mod narrow;
 mod parts;
 mod refute;
 mod scan;
@@ -16,6 +15,3 @@ mod verdict;
 
 pub use checker::Checker;
 pub use verdict::{Checked, check};
-
-#[cfg(test)]
-mod tests;

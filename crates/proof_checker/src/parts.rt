@@ -1,7 +1,7 @@
-ghost use Rattle.std.specs.Prelude.{◌≡◌, ◌↔◌, ◌%◌, ◌<◌, ◌≤◌, ◌++◌, ◌∷◌, [], length, IsTrue, IfOk, OnOk};
+ghost use Rattle.std.specs.Prelude.{◌≡◌, ◌↔◌, ◌<◌, ◌≤◌, ◌++◌, ◌∷◌, [], length, IsTrue, IfOk, OnOk};
 ghost use Rattle.std.specs.List.{Contains};
-ghost use Rattle.kv_clause.specs.Literals.{complement_of};
-ghost use Rattle.kv_clause.specs.Propagation.{clause_at, Refuted};
+ghost use Rattle.sat_clause.specs.Literals.{complement_of};
+ghost use Rattle.sat_clause.specs.Propagation.{clause_at, Refuted};
 ghost use Rattle.sat_engine.specs.Look.{InRange, AreFalseBut};
 ghost use Rattle.sat_engine.specs.Trail.{IsSet};
 ghost use Rattle.proof_checker.specs.Parts.{IsReady};
@@ -10,7 +10,7 @@ use crate::refute::refute;
 use crate::scan::{Class, classify};
 use crate::tiers::{Origin, Tiers};
 use kv_base::NoMemory;
-use sat_engine::{Reason, Store, Trail, complement};
+use sat_engine::{Reason, Store, Trail, open_pair};
 use std::alloc::Global;
 
 /// What the checker works on: the clauses, the literals that follow from them alone, the tiers, and whether the
@@ -36,7 +36,7 @@ pub fn empty(alloc: Global) -> Parts
     }
 }
 
-// Makes room for the literal's variable.
+/// Makes room for the literal's variable.
 fn widen(alloc: Global, parts: &mut Parts, lit: u32) -> Result<(), NoMemory>
     requires { IsReady parts.old }
     ensures ready { OnOk result (IsReady parts.new) }
@@ -64,29 +64,7 @@ pub fn fit(alloc: Global, parts: &mut Parts, lits: &[u32]) -> Result<(), NoMemor
     Ok(())
 }
 
-// Two literals of the clause that are not false, where it has no true one.
-fn open_pair(clause: &[u32], truth: &[bool]) -> Option<(u32, u32)>
-    requires range { InRange clause.now (length truth.now) }
-    requires even { length truth.now % 2 ≡ 0 }
-{
-    let mut first: Option<u32> = None;
-    for lit in clause {
-        let lit = *lit;
-        if truth[lit as usize] {
-            return None;
-        }
-        if truth[complement(lit) as usize] || first == Some(lit) {
-            continue;
-        }
-        match first {
-            None => first = Some(lit),
-            Some(other) => return Some((other, lit)),
-        }
-    }
-    None
-}
-
-// Sets true a literal that follows from its clause alone, and propagates it.
+/// Sets true a literal that follows from its clause alone, and propagates it.
 fn settle(alloc: Global, parts: &mut Parts, clause: u32, lit: u32) -> Result<(), NoMemory>
     requires ready { IsReady parts.old }
     requires clause { clause < length parts.old.store }
@@ -111,7 +89,7 @@ fn settle(alloc: Global, parts: &mut Parts, clause: u32, lit: u32) -> Result<(),
     }
 }
 
-// Stores the clause, and gives its number.
+/// Stores the clause, and gives its number.
 fn append(parts: &mut Parts, clause: &[u32]) -> Result<u32, NoMemory>
     requires ready { IsReady parts.old }
     requires room { InRange clause.now (length parts.old.trail.truth.items) }

@@ -1,5 +1,5 @@
 ghost use Rattle.std.specs.Prelude.{◌≡◌, ◌↔◌, ℕ, ◌*◌, ◌<◌, ◌≤◌, Bool, true, false, List, [], length, IsTrue, IfOk, OnOk};
-ghost use Rattle.kv_clause.specs.Propagation.{Refuted};
+ghost use Rattle.sat_clause.specs.Propagation.{Refuted};
 ghost use Rattle.sat_engine.specs.Look.{InRange, AreInRange};
 ghost use Rattle.proof_checker.specs.Base.{IsBase, AssumeSays};
 
@@ -9,7 +9,7 @@ use kv_base::NoMemory;
 use sat_engine::{Reason, Store, Trail, complement};
 use std::alloc::Global;
 
-// Sets the asked literals true: answers true where the complement of one of them is true by then.
+/// Sets the asked literals true: answers true where the complement of one of them is true by then.
 fn assume(store: &Store, trail: &mut Trail, asked: &[u32]) -> Result<bool, NoMemory>
     requires range { InRange asked.now (length trail.old.truth.items) }
     requires base { IsBase store.now [] trail.old.steps.items }

@@ -1,7 +1,7 @@
 ghost use Rattle.std.specs.Prelude.{◌≡◌, ◌≢◌, ℕ, ◌+◌, ◌*◌, ◌%◌, ◌<◌, ◌≤◌, ◌⊎◌, Bool, true, false, length, IfOk, OnOk};
 ghost use Rattle.std.specs.List.{Contains};
-ghost use Rattle.kv_clause.specs.Literals.{complement_of};
-ghost use Rattle.kv_clause.specs.Propagation.{clause_at};
+ghost use Rattle.sat_clause.specs.Literals.{complement_of};
+ghost use Rattle.sat_clause.specs.Propagation.{clause_at};
 ghost use Rattle.sat_engine.specs.Trail.{IsSet};
 ghost use Rattle.sat_engine.specs.Look.{InRange, AreInRange, AreFalse, AreFalseBut};
 ghost use Rattle.sat_engine.specs.Grow.{Grows};
@@ -61,6 +61,7 @@ pub fn classify(clause: &[u32], truth: &[bool]) -> Class
     }
 }
 
+/// The first clause that is false, or has one literal left that isn't.
 fn scan_all(store: &Store, truth: &[bool]) -> Scan
     requires range { AreInRange store.now (length truth.now) }
     requires even { length truth.now % 2 ≡ 0 }

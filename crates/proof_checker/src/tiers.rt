@@ -1,7 +1,7 @@
 //! Where a conflict is sought: first among the clauses that were learnt or used of late, and then among the others.
 //! No proof rests on which clause is where.
 ghost use Rattle.std.specs.Prelude.{◌≡◌, ℕ, ◌<◌, length, IfOk, IfSome};
-ghost use Rattle.kv_clause.specs.Propagation.{clause_at};
+ghost use Rattle.sat_clause.specs.Propagation.{clause_at};
 ghost use Rattle.sat_engine.specs.Look.{AreInRange, AreFalse};
 ghost use Rattle.sat_engine.specs.Grow.{Grows};
 
@@ -10,10 +10,10 @@ use sat_engine::{Reason, Store, Trail, Watches, propagate};
 use std::alloc::Global;
 use std::mem;
 
-/// After so many learnt clauses those that weren't used for long go to the next tier.
+/// After this many learnt clauses those that weren't used for long go to the next tier.
 const PERIOD: u32 = 250;
 
-/// How long a learnt clause stays in each tier but the last: for so many learnt clauses after its last use.
+/// How long a learnt clause stays in each tier but the last: for this many learnt clauses after its last use.
 const PATIENCE: [u32; 2] = [400, 8000];
 
 /// Where a clause comes from.
@@ -32,6 +32,7 @@ struct Tier {
 }
 
 impl Tier {
+    /// No clauses. It takes no memory.
     fn new(alloc: Global) -> Tier {
         Tier {
             watches: Watches::new(alloc),

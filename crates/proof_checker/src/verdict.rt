@@ -3,7 +3,7 @@ ghost use Rattle.proof_checker.specs.Checking.{CheckSays};
 
 use crate::checker::Checker;
 use kv_base::NoMemory;
-use kv_clause::{Clauses, Cnf, Log};
+use sat_clause::{Clauses, Cnf, Log};
 use std::alloc::Global;
 
 /// What a log shows over the clauses that it began with.
@@ -11,13 +11,13 @@ use std::alloc::Global;
 pub enum Checked {
     /// The empty clause stands in it, and every step up to that one follows: no assignment meets the clauses.
     Refutes,
-    /// All of so many steps follow, and none is empty.
+    /// All steps follow, this many, and none is empty.
     Learns(usize),
     /// This step, counted from 0, is the first that doesn't follow.
     Bad { step: usize },
 }
 
-// A checker of the clauses.
+/// A checker of the clauses.
 fn begin(alloc: Global, clauses: &Clauses) -> Result<Checker, NoMemory>
     ensures clauses { IfOk result (λ checker. checker.clauses ≡ clauses.now) }
     ensures working { IfOk result (λ checker. checker.refused ≡ false) }

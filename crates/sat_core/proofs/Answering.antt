@@ -4,10 +4,10 @@ use Rattle.std.specs.List.{Contains}
 use Rattle.std.proofs.lemmas.Bool.{cases_eq, cases_lt, eq-eqb, ne_eqb, false≢true}
 use Rattle.std.proofs.lemmas.List.{length-take-le, get_or-take, get_or_past, get_or_default}
 use Rattle.std.proofs.lemmas.List.Sums.{list_all-from_AllPass}
-use Rattle.kv_clause.specs.Literals.{complement_of, is_true, clause_holds, MeetsAll, AreTrue, truths}
-use Rattle.kv_clause.specs.Propagation.{clause_at, Conflict, Refuted}
-use Rattle.kv_clause.proofs.Truths.{holds-from_literal, true_each, met_at, met-from_each}
-use Rattle.kv_clause.proofs.Propagation.{Conflict-more, Follows-sound, Refuted-sound}
+use Rattle.sat_clause.specs.Literals.{complement_of, is_true, clause_holds, MeetsAll, AreTrue, truths}
+use Rattle.sat_clause.specs.Propagation.{clause_at, Conflict, Refuted}
+use Rattle.sat_clause.proofs.Truths.{holds-from_literal, true_each, met_at, met-from_each}
+use Rattle.sat_clause.proofs.Propagation.{Conflict-more, Follows-sound, Refuted-sound}
 use Rattle.sat_engine.specs.Trail.{IsSet, IsTrail}
 use Rattle.sat_engine.specs.declared.trail.Step.{Step}
 use Rattle.sat_search.specs.State.{IsNew as IsNewOf}

@@ -2,13 +2,13 @@ use Rattle.std.proofs.Common.{ℕ, ◌≡◌, ◌+◌, ◌-◌, ◌*◌, ◌/◌
 use Rattle.std.specs.List.{Contains}
 use Rattle.std.proofs.lemmas.Bool.{cases_lt}
 use Rattle.std.proofs.lemmas.List.{length-map, length-drop, length-take-le, length_push, take-append-le, take_all, take_at, get_or-map, get_or-drop, get_or-take, get_or_append_left, get_or_push, get_or_default}
-use Rattle.kv_clause.specs.Propagation.{clause_at}
-use Rattle.kv_clause.proofs.Counting.{code, code-lt, Contains-code}
-use Rattle.sat_engine.proofs.Distinct.{distinct_below}
+use Rattle.sat_clause.specs.Propagation.{clause_at}
+use Rattle.sat_clause.proofs.Counting.{code, code-lt, Contains-code}
+use Rattle.sat_clause.proofs.Distinct.{distinct_below}
 use Rattle.sat_search.specs.Rank.{rank}
 use Rattle.sat_search.proofs.Ranks.{rank-le}
 use Rattle.sat_engine.specs.Look.{InRange}
-use Rattle.kv_clause.specs.Propagation.{Includes}
+use Rattle.sat_clause.specs.Propagation.{Includes}
 use Rattle.sat_engine.specs.declared.trail.Step.{Step}
 use Rattle.sat_engine.proofs.Trails.{IsTrail-length}
 use Rattle.sat_search.specs.declared.parts.Parts.{Parts}

@@ -1,11 +1,11 @@
 -- The parts between two calls, where nothing is set but what follows from the clauses alone.
-use Rattle.std.proofs.Common.{ℕ, zero, suc, ◌≡◌, ◌/◌, ◌<◌, ◌≤◌, ◌++◌, inl, inr, List, [], ◌∷◌, length, get_or, take, Bool, false, refl, sym, ap, subst, ◌∙◌, arith}
+use Rattle.std.proofs.Common.{ℕ, zero, suc, ◌≡◌, ◌/◌, ◌<◌, ◌++◌, inl, inr, List, [], ◌∷◌, length, get_or, take, Bool, false, refl, sym, ap, subst, ◌∙◌, arith}
 use Rattle.std.specs.List.{Contains}
 use Rattle.std.proofs.lemmas.Bool.{cases_lt, false≢true}
 use Rattle.std.proofs.lemmas.List.{length-take-le, length_push, get_or_append_left, get_or_past, get_or_push}
-use Rattle.kv_clause.specs.Literals.{complement_of}
-use Rattle.kv_clause.specs.Propagation.{clause_at, Derived, Conflict}
-use Rattle.kv_clause.proofs.Propagation.{Conflict-more, HasAll-append}
+use Rattle.sat_clause.specs.Literals.{complement_of}
+use Rattle.sat_clause.specs.Propagation.{clause_at, Derived, Conflict}
+use Rattle.sat_clause.proofs.Propagation.{Conflict-more, HasAll-append}
 use Rattle.sat_engine.specs.declared.trail.Reason.{Reason}
 use Rattle.sat_engine.specs.declared.trail.Reason.TheVariants.{Free, Assumed, Clause}
 use Rattle.sat_engine.specs.declared.trail.Step.{Step}
@@ -13,8 +13,8 @@ use Rattle.sat_engine.specs.Trail.{IsSet, IsReason, reason_at}
 use Rattle.sat_engine.specs.Look.{AreInRange, AreFalse}
 use Rattle.sat_engine.specs.Grow.{IsImplied, Grows}
 use Rattle.sat_search.specs.declared.parts.Parts.{Parts}
-use Rattle.sat_search.specs.declared.index.Entry.{Entry}
-use Rattle.sat_search.specs.New.{IsIndexed, IsListed}
+use Rattle.sat_index.specs.declared.index.Occurrence.{Occurrence}
+use Rattle.sat_index.specs.Listed.{IsIndexed, IsListed}
 use Rattle.sat_search.specs.State.{is_choice, IsState, IsReady}
 use Rattle.sat_search.proofs.States.{IsState-cut, IsState-grow, IsState-advance}
 use Rattle.sat_core.specs.Finding.{IsIdle}
@@ -78,14 +78,14 @@ Conflict-idle p n h lt no_good = record {
 }
 
 -- room for a further variable
-pub IsIndexed-wider : (F : List (List ℕ)) (lists : List (List Entry)) → IsIndexed F lists → IsIndexed F (lists ++ [] ∷ [])
+pub IsIndexed-wider : (F : List (List ℕ)) (lists : List (List Occurrence)) → IsIndexed F lists → IsIndexed F (lists ++ [] ∷ [])
 IsIndexed-wider F lists ix i h =
     let w = ix i h in
     elim (cases_lt w.0 (length lists)) [
-      | inl lt ↦ (w.0, w.1, subst (λ (x : List Entry). IsListed F x i) (sym (get_or_append_left lists ([] ∷ []) [] w.0 lt)) w.2)
+      | inl lt ↦ (w.0, w.1, subst (λ (x : List Occurrence). IsListed F x i) (sym (get_or_append_left lists ([] ∷ []) [] w.0 lt)) w.2)
       | inr ge ↦
           let none : get_or lists w.0 [] ≡ [] = get_or_past lists w.0 [] ge in
-          let bad : IsListed F [] i = subst (λ (x : List Entry). IsListed F x i) none w.2 in
+          let bad : IsListed F [] i = subst (λ (x : List Occurrence). IsListed F x i) none w.2 in
           let past = bad.1.1 in
           absurd (omega (arith, past))
     ]
@@ -100,10 +100,6 @@ unset_wider flags off m h = off m (sym (same flags m) ∙ h)
     same (x ∷ xs) zero = refl
     same (x ∷ xs) (suc m) = same xs m
 
-pub AreInRange-wider : (F : List (List ℕ)) (m n : ℕ) → m ≤ n → AreInRange F m → AreInRange F n
-AreInRange-wider F m n le all i lt k h = let r = all i lt k h in omega arith
-
--- what is ready under some assumptions, with a trail that stands under any
 pub IsIdle-from : (p q : Parts) (A : List ℕ) → IsReady A p → IsState q.store [] q.trail.steps.items q.start → length q.trail.truth.items ≡ length p.trail.truth.items → AreInRange q.store (length p.trail.truth.items) → length q.store < 4294967296 → IsIndexed q.store q.index → length q.index ≡ length p.index
     → length q.flags.items ≡ length p.flags.items → ((m : ℕ) → IsSet q.flags.items m → ⊥) → length q.marks.items ≡ length p.marks.items → ((v : ℕ) → IsSet q.marks.items v → ⊥) → length q.trail.steps.items ≡ q.start → IsIdle q
 IsIdle-from p q A r s size range few ix lists flags unset marks clean idle = record {

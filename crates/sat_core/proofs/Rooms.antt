@@ -1,8 +1,8 @@
 -- Room for variables, counted in literals and in variables.
 use Rattle.std.proofs.Common.{ℕ, ◌≡◌, ◌*◌, ◌/◌, ◌%◌, ◌<◌, ◌≤◌, List, [], get_or, subst, arith}
 use Rattle.std.proofs.lemmas.List.{get_or_default}
-use Rattle.kv_clause.specs.Literals.{variable_of, AreBelow, ClausesAreBelow}
-use Rattle.kv_clause.specs.Propagation.{clause_at}
+use Rattle.sat_clause.specs.Literals.{variable_of, AreBelow, ClausesAreBelow}
+use Rattle.sat_clause.specs.Propagation.{clause_at}
 use Rattle.sat_engine.specs.Look.{InRange, AreInRange}
 use Rattle.sat_core.specs.Finding.{AreWider}
 use Rattle.sat_core.specs.Solving.{IsRoom}

@@ -1,7 +1,7 @@
 -- What a search over the working parts finds.
 use Rattle.std.specs.Prelude.{ℕ, ◌≡◌, ◌+◌, ◌*◌, ◌/◌, ◌<◌, ◌≤◌, List, [], length, take, slice_index_or, Bool, true, false}
 use Rattle.std.specs.List.{Contains}
-use Rattle.kv_clause.specs.Propagation.{clause_at, Conflict, Refuted}
+use Rattle.sat_clause.specs.Propagation.{clause_at, Conflict, Refuted}
 use Rattle.sat_engine.specs.Trail.{IsSet}
 use Rattle.sat_engine.specs.Look.{InRange}
 use Rattle.sat_search.specs.declared.parts.Parts.{Parts}

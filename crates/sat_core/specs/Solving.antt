@@ -1,9 +1,10 @@
 -- What a call of a solver learns, and what its answer says.
-use Rattle.std.specs.Prelude.{ℕ, ◌≡◌, ◌+◌, ◌<◌, ◌≤◌, List, length, take, Bool}
-use Rattle.kv_clause.specs.Literals.{AreBelow, ClausesAreBelow, MeetsAll, AreTrue, truths}
-use Rattle.kv_clause.specs.Propagation.{clause_at, Follows, Refuted, IncludesNone, IsProper}
+use Rattle.std.specs.Prelude.{ℕ, ◌≡◌, ◌+◌, ◌<◌, ◌≤◌, ◌++◌, List, length, drop, take, Bool}
+use Rattle.sat_clause.specs.Literals.{AreBelow, ClausesAreBelow, MeetsAll, AreTrue, truths}
+use Rattle.sat_clause.specs.Propagation.{clause_at, Follows, Refuted, IncludesNone, IsProper}
 use Rattle.sat_core.specs.Counts.{raised}
 use Rattle.sat_core.specs.Finding.{TellsTruth}
+use Rattle.sat_core.specs.Held.{Held}
 use Rattle.sat_core.specs.declared.find.Found.{Found}
 use Rattle.sat_core.specs.declared.find.Found.TheVariants.{Sat as Met, Unsat as Refutes, Spent as Ended, Stopped as Halted}
 use Rattle.sat_core.specs.declared.solver.Answer.{Answer}
@@ -20,6 +21,12 @@ pub record IsLearnt (n : ℕ) (F G : List (List ℕ)) : Type 0 where
   pub longer : length F ≤ length G
   pub front : take (length F) G ≡ F
   pub new : (i : ℕ) → length F ≤ i → i < length G → IsNew n (take i G) (clause_at G i)
+
+-- a call with a budget, none where it is 0, learnt clauses: they are put after the clauses, and at the end of the log
+pub record Learns (old new : Held) (budget : ℕ) : Type 0 where
+  pub learnt : IsLearnt new.vars old.clauses new.clauses
+  pub log : new.log ≡ old.log ++ drop (length old.clauses) new.clauses
+  pub within : 0 < budget → length new.clauses ≤ length old.clauses + budget
 
 -- there is room for further variables, and for no more than the literals have
 pub record IsRoom (lits : List ℕ) (old new : ℕ) : Type 0 where

@@ -2,7 +2,7 @@ ghost use Rattle.std.specs.Prelude.{ℕ, ◌≡◌, ◌*◌, ◌/◌, ◌%◌, �
 ghost use Rattle.sat_core.specs.Finding.{TellsTruth};
 
 use kv_base::{NoMemory, Sequence};
-use kv_clause::Assignment;
+use sat_clause::Assignment;
 use std::alloc::Global;
 
 /// The truth of each variable, where `truth` says of each literal whether it is true.

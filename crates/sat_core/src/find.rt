@@ -22,7 +22,7 @@ pub enum Found {
     Stopped,
 }
 
-// One clause more was learnt, which is counted where there is a budget.
+/// One clause more was learnt, which is counted where there is a budget.
 fn counted(learnt: u32, budget: u32) -> u32
     requires { 0 < budget → learnt < budget }
     ensures none { budget ≡ 0 → result ≡ 0 }
@@ -31,6 +31,7 @@ fn counted(learnt: u32, budget: u32) -> u32
     if budget == 0 { 0 } else { learnt + 1 }
 }
 
+/// Whether as many clauses were learnt as the budget lets be.
 fn is_spent(learnt: u32, budget: u32) -> bool
     ensures spent { result ≡ true → (0 < budget) × (learnt ≡ budget) }
     ensures not_spent { result ≡ false → 0 < budget → learnt ≢ budget }

@@ -7,7 +7,6 @@
 
 mod assignment;
 mod find;
-mod narrow;
 mod poll;
 mod setup;
 mod solver;

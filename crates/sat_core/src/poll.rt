@@ -1,4 +1,4 @@
-ghost use Rattle.std.specs.Prelude.{ℕ, ◌≡◌, IsTrue, IsFalse};
+ghost use Rattle.std.specs.Prelude.{ℕ, ◌≡◌, ◌≤◌, ◌↔◌, IsTrue, IsFalse};
 ghost use Rattle.sat_core.specs.Counts.{raised};
 
 /// Whether to stop, asked now and then by what takes long. It counts the asks and the answers yes; a count stays at its
@@ -33,6 +33,7 @@ pub struct NeverPoll {
 }
 
 impl NeverPoll {
+    /// Not asked yet.
     pub fn new() -> NeverPoll {
         NeverPoll { asks: 0 }
     }
@@ -55,7 +56,7 @@ impl Poll for NeverPoll {
     }
 }
 
-/// A poll that says yes at its n-th ask and after.
+/// A poll that says yes at its n-th ask and after. It counts the asks and the answers yes.
 #[derive(Debug, Drop)]
 pub struct PollAt {
     at: u64,
@@ -64,7 +65,10 @@ pub struct PollAt {
 }
 
 impl PollAt {
-    pub fn new(at: u64) -> PollAt {
+    /// Not asked yet, it says yes at the ask of this number, counted from 1, and after.
+    pub fn new(at: u64) -> PollAt
+        ensures { result ≡ record { at = at; asks = 0; yeses = 0 } }
+    {
         PollAt {
             at,
             asks: 0,
@@ -91,7 +95,13 @@ impl Poll for PollAt {
 
     ghost yeses = { λ p. p.yeses };
 
-    fn stop(&mut self) -> bool {
+    fn stop(&mut self) -> bool
+        ensures at { self.new.at ≡ self.old.at }
+        ensures asks { self.new.asks ≡ raised self.old.asks }
+        ensures yes { IsTrue result → self.new.yeses ≡ raised self.old.yeses }
+        ensures no { IsFalse result → self.new.yeses ≡ self.old.yeses }
+        ensures answer { IsTrue result ↔ self.old.at ≤ raised self.old.asks }
+    {
         self.asks = self.asks.saturating_add(1);
         if self.asks < self.at {
             return false;

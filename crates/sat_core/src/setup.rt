@@ -1,12 +1,13 @@
-ghost use Rattle.std.specs.Prelude.{◌≡◌, ℕ, ◌+◌, ◌*◌, ◌%◌, ◌<◌, ◌≤◌, ◌++◌, ◌∷◌, [], List, length, max, true, IfOk, OnOk};
-ghost use Rattle.kv_clause.specs.Propagation.{clause_at};
+ghost use Rattle.std.specs.Prelude.{◌≡◌, ℕ, ◌+◌, ◌*◌, ◌<◌, ◌≤◌, ◌++◌, ◌∷◌, [], List, length, max, true, IfOk, OnOk};
+ghost use Rattle.sat_clause.specs.Propagation.{clause_at};
 ghost use Rattle.sat_engine.specs.Look.{InRange};
 ghost use Rattle.sat_search.specs.State.{IsReady};
 ghost use Rattle.sat_core.specs.Finding.{IsIdle, IsKept, HasRoom, AreWider};
 
 use kv_base::NoMemory;
-use sat_engine::{Seen, Store, Trail, Watches, complement, imply, look_at};
-use sat_search::{Guide, Index, Parts, record_clause, rewind};
+use sat_engine::{Seen, Store, Trail, Watches, imply, look_at, open_pair};
+use sat_index::{Index, record_clause};
+use sat_search::{Guide, Parts, rewind};
 use std::alloc::Global;
 
 /// The greatest number of literals.
@@ -30,7 +31,7 @@ pub fn empty(alloc: Global) -> Parts
     }
 }
 
-// Makes room for a further variable.
+/// Makes room for a further variable.
 fn widen(alloc: Global, parts: &mut Parts) -> Result<(), NoMemory>
     requires idle { IsIdle parts.old }
     ensures idle { OnOk result (IsIdle parts.new) }
@@ -50,7 +51,7 @@ fn widen(alloc: Global, parts: &mut Parts) -> Result<(), NoMemory>
     Ok(())
 }
 
-// Makes room for a literal's variable.
+/// Makes room for a literal's variable.
 fn fit_one(alloc: Global, parts: &mut Parts, lit: u32) -> Result<(), NoMemory>
     requires idle { IsIdle parts.old }
     ensures idle { OnOk result (IsIdle parts.new) }
@@ -76,29 +77,7 @@ pub fn fit(alloc: Global, parts: &mut Parts, lits: &[u32]) -> Result<(), NoMemor
     Ok(())
 }
 
-// Two literals of the clause that are not false, where it has no true one.
-fn open_pair(clause: &[u32], truth: &[bool]) -> Option<(u32, u32)>
-    requires range { InRange clause.now (length truth.now) }
-    requires even { length truth.now % 2 ≡ 0 }
-{
-    let mut first: Option<u32> = None;
-    for lit in clause {
-        let lit = *lit;
-        if truth[lit as usize] {
-            return None;
-        }
-        if truth[complement(lit) as usize] || first == Some(lit) {
-            continue;
-        }
-        match first {
-            None => first = Some(lit),
-            Some(other) => return Some((other, lit)),
-        }
-    }
-    None
-}
-
-// Sets true the one literal of a clause that isn't false, where there is only one, and answers whether all are false.
+/// Sets true the one literal of a clause that isn't false, where there is only one, and answers whether all are false.
 fn settle(parts: &mut Parts, clause: &[u32], number: u32) -> Result<bool, NoMemory>
     requires idle { IsIdle parts.old }
     requires number { number < length parts.old.store }
@@ -120,7 +99,7 @@ fn settle(parts: &mut Parts, clause: &[u32], number: u32) -> Result<bool, NoMemo
     }
 }
 
-// Stores a clause that isn't empty, and answers whether all its literals are false.
+/// Stores a clause that isn't empty, and answers whether all its literals are false.
 fn insert_some(parts: &mut Parts, clause: &[u32]) -> Result<bool, NoMemory>
     requires some { 0 < length clause.now }
     requires idle { IsIdle parts.old }

@@ -1,18 +1,17 @@
 ghost use Rattle.std.specs.Prelude.{ℕ, ◌≡◌, ◌+◌, ◌-◌, ◌/◌, ◌<◌, ◌≤◌, ◌++◌, ◌∷◌, [], List, length, drop, true, false, IsErr, IfOk, OnOk, OnErr};
-ghost use Rattle.kv_clause.specs.Literals.{AreBelow};
+ghost use Rattle.sat_clause.specs.Literals.{AreBelow};
 ghost use Rattle.sat_engine.specs.Look.{InRange};
 ghost use Rattle.sat_core.specs.Counts.{raised_by};
 ghost use Rattle.sat_core.specs.Finding.{IsIdle, IsKept};
-ghost use Rattle.sat_core.specs.Solving.{IsAnswer, IsLearnt, IsRoom, AnswerSays, YesSays};
+ghost use Rattle.sat_core.specs.Solving.{Learns, IsAnswer, IsLearnt, IsRoom, AnswerSays, YesSays};
 
 use crate::assignment::assignment;
 use crate::find::{Found, find};
-use crate::narrow::narrow;
 use crate::poll::Poll;
 use crate::setup::{empty, fit, insert, retreat};
 use kv_base::{NoMemory, Sequence};
-use kv_clause::{Assignment, Clause, Lit, Lits, Log};
-use sat_engine::Store;
+use sat_clause::{Assignment, Clause, Lit, Lits, Log};
+use sat_engine::{Store, narrow};
 use sat_search::Parts;
 use std::alloc::Global;
 use std::marker::Model;
@@ -25,7 +24,7 @@ pub enum Answer {
     /// No assignment does: propagating the assumed literals over the clauses added and learnt reaches one with every
     /// literal false, or two of them are complementary.
     Unsat,
-    /// The budget is spent: so many clauses were learnt.
+    /// The budget is spent: exactly that many clauses were learnt.
     Spent,
     /// The poll said yes.
     Stopped,
@@ -55,7 +54,7 @@ impl Model for Solver {
     ghost invariant = { λ s. s.is_refused ≡ false → IsKept s.parts s.is_refuted };
 }
 
-// The answer for what was found, with the truths where the search stands.
+/// The answer for what was found, with the truths where the search stands.
 fn answer_of(alloc: Global, truth: &[bool], found: Found) -> Result<Answer, NoMemory>
     ensures { IfOk result (λ answer. IsAnswer truth.now found answer) }
 {
@@ -67,7 +66,7 @@ fn answer_of(alloc: Global, truth: &[bool], found: Found) -> Result<Answer, NoMe
     }
 }
 
-// Searches under the assumed literals, and leaves nothing set but what follows from the clauses alone.
+/// Searches under the assumed literals, and leaves nothing set but what follows from the clauses alone.
 fn search<P: Poll>(
     alloc: Global,
     parts: &mut Parts,
@@ -94,7 +93,7 @@ fn search<P: Poll>(
     Ok(answer)
 }
 
-// The clause with these literals.
+/// The clause with these literals.
 fn clause_of(alloc: Global, lits: &[u32]) -> Result<Clause, NoMemory>
     ensures { IfOk result (λ clause. clause ≡ lits.now) }
 {
@@ -105,7 +104,7 @@ fn clause_of(alloc: Global, lits: &[u32]) -> Result<Clause, NoMemory>
     Ok(Sequence::from_vec(made))
 }
 
-// Logs the clauses of the store from this one on.
+/// Logs the clauses of the store from this one on.
 fn log_from(alloc: Global, log: &mut Log, store: &Store, from: usize) -> Result<(), NoMemory>
     requires { from ≤ length store.now }
     ensures { OnOk result (log.new ≡ log.old ++ drop from store.now) }
@@ -116,7 +115,7 @@ fn log_from(alloc: Global, log: &mut Log, store: &Store, from: usize) -> Result<
     Ok(())
 }
 
-// Adds a clause, and answers whether the clauses are refuted then.
+/// Adds a clause, and answers whether the clauses are refuted then.
 fn add_to(
     alloc: Global,
     parts: &mut Parts,
@@ -171,7 +170,7 @@ impl Solver {
     }
 
     /// Searches for an assignment that meets all clauses and makes the assumed literals true. With a budget above 0 it
-    /// ends once it has learnt so many clauses; the poll is asked at least once for each clause learnt, and a yes is
+    /// ends once it has learnt that many clauses; the poll is asked at least once for each clause learnt, and a yes is
     /// the last ask.
     pub fn solve<P: Poll>(
         &mut self,
@@ -180,10 +179,8 @@ impl Solver {
         poll: &mut P,
     ) -> Result<Answer, NoMemory>
         requires { P.ready poll.old }
-        ensures learnt { OnOk result (IsLearnt self.new.vars self.old.clauses self.new.clauses) }
-        ensures log { OnOk result (self.new.log ≡ self.old.log ++ drop (length self.old.clauses) self.new.clauses) }
+        ensures learns { OnOk result (Learns self.old self.new budget) }
         ensures vars { OnOk result (IsRoom assumed.now self.old.vars self.new.vars) }
-        ensures within { OnOk result (0 < budget → length self.new.clauses ≤ length self.old.clauses + budget) }
         ensures answer { IfOk result (λ answer. AnswerSays self.new.vars self.old.clauses self.new.clauses assumed.now budget answer) }
         ensures working { OnOk result (self.new.refused ≡ false) }
         ensures broken { OnErr result (self.new.refused ≡ true) }
@@ -214,5 +211,13 @@ impl Solver {
         ensures { result.now ≡ self.now.log }
     {
         &self.log
+    }
+
+    /// Hands out the clauses that were learnt, in the order in which they were. The log begins anew.
+    pub fn take_log(&mut self) -> Log
+        ensures log { result ≡ self.old.log }
+        ensures rest { self.new ≡ record self.old { log = [] } }
+    {
+        std::mem::replace(&mut self.log, Sequence::new(self.alloc))
     }
 }

@@ -2,8 +2,8 @@ use Rattle.std.proofs.Common.{ℕ, ◌≡◌, ◌≢◌, ◌+◌, ◌/◌, ◌<�
 use Rattle.std.specs.List.{Contains}
 use Rattle.std.proofs.lemmas.List.{length_push, get_or_push, get_or_append_left, take-append-le, take_all, get_or-take, take-take}
 use Rattle.std.proofs.lemmas.Bool.{cases_lt}
-use Rattle.kv_clause.specs.Propagation.{clause_at}
-use Rattle.kv_clause.specs.Literals.{complement_of}
+use Rattle.sat_clause.specs.Propagation.{clause_at}
+use Rattle.sat_clause.specs.Literals.{complement_of}
 use Rattle.sat_engine.specs.declared.trail.Reason.{Reason}
 use Rattle.sat_engine.specs.declared.trail.Reason.TheVariants.{Free, Assumed, Clause}
 use Rattle.sat_engine.specs.declared.trail.Step.{Step}

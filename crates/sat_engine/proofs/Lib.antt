@@ -1,5 +1,5 @@
-pub mod Distinct
 pub mod Laid
 pub mod Tagged
 pub mod Trails
 pub mod Growing
+pub mod Ranges

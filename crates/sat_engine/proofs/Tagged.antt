@@ -59,7 +59,7 @@ told_same words more heads p fit t =
       end = t.end ∙ ap (λ (x : ℕ). p + 2 + (x - first_tag)) (sym here);
     })
 
--- words that begin no clause may come behind
+-- words that begin no clause may follow
 pub IsLaid-append : (words more : List ℕ) (heads : List Head) → InRange more first_tag → IsLaid words heads → IsLaid (words ++ more) heads
 IsLaid-append words more heads all laid = record {
   fit = fit_more words more heads laid.fit;
@@ -74,7 +74,7 @@ IsLaid-append words more heads all laid = record {
   ];
 }
 
--- a clause behind the words, told by two of them
+-- a clause after the words, told by two of them
 pub IsLaid-push : (words c : List ℕ) (heads : List Head) (s e : ℕ) → s ≡ length words + 2 → e ≡ length words + 2 + length c → length heads < first_tag → InRange c first_tag → IsLaid words heads
     → IsLaid (words ++ (first_tag + (e - s)) ∷ length heads ∷ c) (heads ++ record { start = s; end = e } ∷ [])
 IsLaid-push words c heads s e is_s is_e few all laid =

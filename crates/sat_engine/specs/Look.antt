@@ -1,7 +1,7 @@
 use Rattle.std.specs.Prelude.{ℕ, ◌≢◌, ◌<◌, List, length, slice_index, Bool}
 use Rattle.std.specs.List.{Contains}
-use Rattle.kv_clause.specs.Propagation.{clause_at}
-use Rattle.kv_clause.specs.Literals.{complement_of}
+use Rattle.sat_clause.specs.Propagation.{clause_at}
+use Rattle.sat_clause.specs.Literals.{complement_of}
 use Rattle.sat_engine.specs.Trail.{IsSet}
 use Rattle.sat_engine.specs.declared.look.Seen.{Seen}
 use Rattle.sat_engine.specs.declared.look.Seen.TheVariants.{Open, Unit, False}

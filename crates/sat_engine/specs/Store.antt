@@ -16,7 +16,7 @@ HeadsFit lits heads = All (λ h. (h.start ≤ h.end) × (h.end ≤ length lits))
 abbrev pub none_head : Head
 none_head = record { start = 0; end = 0 }
 
--- the literals of clause n stand behind a word at p that says how many they are, and the number
+-- the literals of clause n stand after a word at p that says how many they are, and the number
 pub record IsTold (words : List ℕ) (heads : List Head) (p n : ℕ) : Type 0 where
   pub within : n < length heads
   pub start : (slice_index_or heads n none_head).start ≡ p + 2

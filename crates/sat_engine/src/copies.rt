@@ -63,12 +63,14 @@ impl Copies {
         if place == NOTHING { None } else { Some(place) }
     }
 
+    /// Has a clause's copy begin at a place.
     fn set_place(&mut self, clause: u32, place: u32) {
         if let Some(kept) = self.places.get_mut(clause as usize) {
             *kept = place;
         }
     }
 
+    /// Writes a word of the array.
     fn set_word(&mut self, at: usize, word: u32) {
         if let Some(kept) = self.words.get_mut(at) {
             *kept = word;
@@ -105,7 +107,7 @@ impl Copies {
         Ok(Some(place))
     }
 
-    // Puts the further literals at the end, and counts them.
+    /// Puts the further literals at the end, and counts them.
     fn add_others(&mut self, lits: &[u32], one: u32, two: u32) -> Result<u32, NoMemory> {
         let mut many = 0u32;
         for lit in lits {
@@ -117,7 +119,7 @@ impl Copies {
         Ok(many)
     }
 
-    // The literals of the copy at a place.
+    /// The literals of the copy at a place.
     fn lits(&self, place: u32) -> &[u32] {
         let first = place as usize + HEAD;
         if first > self.words.len() {
@@ -186,7 +188,7 @@ impl Copies {
         }
     }
 
-    // Has a watched literal and one from `first` on stand in each other's place, and gives that one.
+    /// Has a watched literal and one from `first` on stand in each other's place, and gives that one.
     fn exchange(&mut self, seat: usize, first: usize, at: usize) -> u32 {
         let place = first.saturating_add(at);
         let to = self.words.get(place).copied().unwrap_or(NOTHING);
@@ -220,7 +222,7 @@ impl Copies {
         Ok(Moves { words: old })
     }
 
-    // Puts a copy at the end, and gives its place.
+    /// Puts a copy at the end, and gives its place.
     fn take_over(&mut self, clause: u32, copy: &[u32]) -> Result<u32, NoMemory> {
         let Ok(place) = u32::try_from(self.words.len()) else {
             return Err(NoMemory);

@@ -13,12 +13,10 @@ mod store;
 mod trail;
 mod watch;
 
-pub use literal::complement;
-pub use look::{Seen, look_at};
+pub use copies::Look;
+pub use literal::{complement, narrow};
+pub use look::{Seen, look_at, open_pair};
 pub use propagation::{imply, propagate};
 pub use store::{Store, Stored};
 pub use trail::{Reason, Step, Trail};
 pub use watch::Watches;
-
-#[cfg(test)]
-mod tests;

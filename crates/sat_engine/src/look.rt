@@ -42,3 +42,25 @@ pub fn look_at(clause: &[u32], truth: &[bool], other: u32) -> Seen
     }
     if found { Seen::Unit } else { Seen::False }
 }
+
+/// Two literals of the clause that are not false, where it has no true one.
+pub fn open_pair(clause: &[u32], truth: &[bool]) -> Option<(u32, u32)>
+    requires range { InRange clause.now (length truth.now) }
+    requires even { length truth.now % 2 ≡ 0 }
+{
+    let mut first: Option<u32> = None;
+    for lit in clause {
+        let lit = *lit;
+        if truth[lit as usize] {
+            return None;
+        }
+        if truth[complement(lit) as usize] || first == Some(lit) {
+            continue;
+        }
+        match first {
+            None => first = Some(lit),
+            Some(other) => return Some((other, lit)),
+        }
+    }
+    None
+}

@@ -1,7 +1,7 @@
 ghost use Rattle.std.specs.Prelude.{◌≡◌, ℕ, ◌+◌, ◌*◌, ◌/◌, ◌%◌, ◌<◌, ◌≤◌, Bool, true, false, length, IfOk, IfSome};
 ghost use Rattle.std.specs.List.{Contains};
-ghost use Rattle.kv_clause.specs.Literals.{complement_of};
-ghost use Rattle.kv_clause.specs.Propagation.{clause_at};
+ghost use Rattle.sat_clause.specs.Literals.{complement_of};
+ghost use Rattle.sat_clause.specs.Propagation.{clause_at};
 ghost use Rattle.sat_engine.specs.Look.{AreInRange, AreFalse, AreFalseBut};
 ghost use Rattle.sat_engine.specs.Grow.{Grows};
 
@@ -34,7 +34,7 @@ pub fn imply(store: &Store, trail: &mut Trail, clause: u32, lit: u32) -> Result<
     Ok(false)
 }
 
-// Sets a literal true where all others are false of the clause that begins at a place. Gives the clause where all are.
+/// Sets a literal true where all others are false of the clause that begins at a place. Gives the clause where all are.
 fn infer(store: &Store, trail: &mut Trail, home: u32, lit: u32) -> Result<Option<u32>, NoMemory>
     requires range { AreInRange store.now (length trail.old.truth.items) }
     ensures grows { Grows store.now trail.old.steps.items trail.new.steps.items }

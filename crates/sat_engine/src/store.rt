@@ -1,6 +1,6 @@
 ghost use Rattle.std.specs.Prelude.{◌≡◌, ℕ, ◌+◌, ◌<◌, ◌≤◌, List, [], ◌∷◌, ◌++◌, length, true, IfOk, IfSome, OnOk, OnErr};
 ghost use Rattle.sat_engine.specs.Look.{InRange};
-ghost use Rattle.kv_clause.specs.Propagation.{clause_at};
+ghost use Rattle.sat_clause.specs.Propagation.{clause_at};
 ghost use Rattle.sat_engine.specs.Tag.{first_tag};
 
 use kv_base::NoMemory;
@@ -47,7 +47,7 @@ impl Model for Store {
     ghost invariant = { λ s. IsLaid s.words.items s.heads.items };
 }
 
-// The number of a clause or a place in the array. One past 32 bits is want of memory.
+/// The number of a clause or a place in the array. One past 32 bits is out of memory.
 fn word(number: usize) -> Result<u32, NoMemory>
     ensures { IfOk result (λ word. word ≡ number) }
 {
@@ -57,7 +57,7 @@ fn word(number: usize) -> Result<u32, NoMemory>
     }
 }
 
-// Whether each of the words is less than those that begin a clause.
+/// Whether each of the words is less than those that begin a clause.
 fn are_plain(words: &[u32]) -> bool
     ensures { result ≡ true → InRange words.now first_tag }
 {
@@ -122,7 +122,7 @@ impl Store {
         })
     }
 
-    /// Adds a clause. A literal of 2^31 or more is want of memory, and so is a clause past 2^31, or a place past 2^32.
+    /// Adds a clause. A literal of 2^31 or more is out of memory, and so is a clause past 2^31, or a place past 2^32.
     pub fn push(&mut self, clause: &[u32]) -> Result<(), NoMemory>
         ensures ok { OnOk result (self.new ≡ self.old ++ clause.now ∷ []) }
         ensures err { OnErr result (self.new ≡ self.old) }

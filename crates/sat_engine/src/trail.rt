@@ -1,5 +1,5 @@
 ghost use Rattle.std.specs.Prelude.{◌≡◌, ℕ, ◌+◌, ◌*◌, ◌<◌, ◌≤◌, Bool, true, false, List, [], ◌∷◌, ◌++◌, length, take, slice_index_or, OnOk, OnErr};
-ghost use Rattle.kv_clause.specs.Literals.{complement_of};
+ghost use Rattle.sat_clause.specs.Literals.{complement_of};
 ghost use Rattle.sat_engine.specs.Trail.{IsTrail, none_step, lit_at};
 
 use kv_base::NoMemory;

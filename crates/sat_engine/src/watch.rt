@@ -19,7 +19,7 @@ pub struct Watches {
     copies: Copies,
 }
 
-// Follows the copies to where they went, and drops what watches for one that is gone.
+/// Follows the copies to where they went, and drops what watches for one that is gone.
 fn follow(list: &mut Vec<Watch>, moves: &Moves) {
     let mut i = 0;
     while i < list.len() {
@@ -65,6 +65,7 @@ impl Watches {
         self.copies.literals_of(clause)
     }
 
+    /// Puts a watch into a literal's list.
     fn put(&mut self, lit: u32, watch: Watch) -> Result<(), NoMemory> {
         if let Some(list) = self.lists.get_mut(lit as usize) {
             list.push(watch)?;
@@ -96,6 +97,7 @@ impl Watches {
         )
     }
 
+    /// Drops the copies that are gone, and what watches for them.
     fn tidy(&mut self) -> Result<(), NoMemory> {
         let moves = self.copies.tidy()?;
         for list in self.lists.iter_mut() {

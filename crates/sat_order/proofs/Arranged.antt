@@ -86,7 +86,7 @@ module _ (vars places : List ℕ) (a : IsArranged vars places) (i j : ℕ) (hi :
         ]
       ])
 
-  -- the first `j` and the variable that stood behind them
+  -- the first `j` and the variable that stood after them
   pub members-put : (here there : List ℕ) (v : ℕ) → there ≡ moved → length here ≡ length vars → length here ≤ length there → v < length vars → i ≡ get_or places v 0 → j ≤ i → members here there (j + 1) ≡ set (members vars places j) v true
   members-put here there v e size room lv is le =
       let v_is : get_or vars i 0 ≡ v = ap (λ (x : ℕ). get_or vars x 0) is ∙ (a.there v lv).1 in
@@ -150,7 +150,7 @@ members-none vars places room v h =
     let b = ltb-true (get_or places v 0) 0 (sym (member_at vars places 0 v false room lt) ∙ h) in
     omega arith
 
--- further variables, which are placed behind
+-- further variables, which are placed after
 pub members-longer : (vars places here there : List ℕ) (count v : ℕ) → IsArranged vars places → IsArranged vars there → count ≤ length vars → take (length places) there ≡ places → length vars ≤ length here → length here ≤ length there
     → IsIn (members here there count) v ↔ IsIn (members vars places count) v
 members-longer vars places here there count v a b le front longer room = (

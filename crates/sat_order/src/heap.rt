@@ -12,7 +12,7 @@ pub struct Heap {
     ghost ok: { IsArranged vars.items places.items },
 }
 
-// How active a variable is.
+/// How active a variable is.
 fn activity_of(activity: &[f64], var: usize) -> f64 {
     match activity.get(var) {
         Some(activity) => *activity,
@@ -38,6 +38,7 @@ impl Heap {
         self.places[two] = i;
     }
 
+    /// Whether the variable at one place is more active than that at another.
     fn is_above(&self, activity: &[f64], one: usize, two: usize) -> bool
         requires one { one < length self.now.vars.items }
         requires two { two < length self.now.vars.items }
@@ -63,7 +64,7 @@ impl Heap {
         }
     }
 
-    // The more active of the two places below.
+    /// The more active of the two places below.
     fn better_below(&self, activity: &[f64], count: usize, at: usize) -> usize
         requires count { count ≤ length self.now.vars.items }
         requires below { 2 * at + 1 < count }
@@ -95,7 +96,7 @@ impl Heap {
         }
     }
 
-    /// Lengthens the places to so many, each new one of the variable of its number.
+    /// Lengthens the places to a given number, each new one of the variable of its number.
     pub fn lengthen(&mut self, vars: usize) -> Result<(), NoMemory>
         ensures vars { self.new.vars.items ≡ self.old.vars.items }
         ensures front { take (length self.old.places.items) self.new.places.items ≡ self.old.places.items }

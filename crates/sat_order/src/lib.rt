@@ -10,6 +10,3 @@ mod variables;
 
 pub use runs::luby;
 pub use variables::Order;
-
-#[cfg(test)]
-mod tests;

@@ -1,7 +1,7 @@
 ghost use Rattle.std.specs.Prelude.{ℕ, ◌≡◌, ◌+◌, ◌*◌, ◌^◌, ◌<◌, ◌≤◌};
 ghost use Rattle.sat_order.specs.Luby.{IsLuby};
 
-// The greatest power of two that isn't greater than the number.
+/// The greatest power of two that isn't greater than the number.
 fn greatest_power(number: u64) -> u64
     requires { 0 < number }
     ensures low { result ≤ number }

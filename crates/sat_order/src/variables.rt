@@ -29,7 +29,7 @@ impl Model for Order {
     ghost invariant = { λ o. o.count ≤ length o.heap.vars.items };
 }
 
-// Gives further variables no activity.
+/// Gives further variables no activity.
 fn fill(activity: &mut Vec<f64>, vars: usize) -> Result<(), NoMemory> {
     while activity.len() < vars {
         activity.push(0.0)?;
@@ -37,7 +37,7 @@ fn fill(activity: &mut Vec<f64>, vars: usize) -> Result<(), NoMemory> {
     Ok(())
 }
 
-// The numbers from one on, below another.
+/// The numbers from one on, below another.
 fn numbers(alloc: Global, from: usize, to: usize) -> Result<Vec<usize>, NoMemory>
     requires { from ≤ to }
     ensures { IfOk result (λ made. AreNumbers from to made.items) }
@@ -121,7 +121,7 @@ impl Order {
         self.heap.rise(&self.activity, self.count, last);
     }
 
-    // Lessens all activities alike, and what the next ones are raised by.
+    /// Lessens all activities alike, and what the next ones are raised by.
     fn rescale(&mut self)
         ensures { self.new ≡ self.old }
     {

@@ -3,9 +3,9 @@ use Rattle.std.proofs.Common.{ℕ, ◌≡◌, ◌≢◌, ◌+◌, ◌<◌, ◌�
 use Rattle.std.proofs.lemmas.List.{length-append, length_push, take-append-drop, take-append-le, take_all, get_or_append_left, get_or_push}
 use Rattle.std.proofs.lemmas.List.Elements.{All-take}
 use Rattle.std.proofs.Math.Seq.{take-append-add, get_or-append_right}
-use Rattle.kv_clause.specs.Literals.{AreBelow, ClausesAreBelow, MeetsAll}
-use Rattle.kv_clause.specs.Propagation.{clause_at, Follows, Refuted, IsProper, Spent}
-use Rattle.kv_clause.proofs.Truths.{met_left}
+use Rattle.sat_clause.specs.Literals.{AreBelow, ClausesAreBelow, MeetsAll}
+use Rattle.sat_clause.specs.Propagation.{clause_at, Follows, Refuted, IsProper, Spent}
+use Rattle.sat_clause.proofs.Truths.{met_left}
 use Rattle.proof_checker.specs.Checking.{IsRefutation, IsLearnt as IsLearntLog}
 use Rattle.sat_core.specs.Solving.{IsNew, IsLearnt}
 

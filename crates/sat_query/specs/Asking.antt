@@ -1,7 +1,7 @@
 -- What an answer about clauses says.
-use Rattle.std.specs.Prelude.{ℕ, ◌≡◌, ◌+◌, ◌-◌, ◌<◌, ◌≤◌, List, length, Bool, IsTrue}
-use Rattle.kv_clause.specs.Literals.{AreBelow, ClausesAreBelow, MeetsAll, clause_holds, truths}
-use Rattle.kv_clause.specs.Propagation.{Spent}
+use Rattle.std.specs.Prelude.{ℕ, ◌≡◌, ◌+◌, ◌-◌, ◌<◌, ◌≤◌, ◌++◌, ◌∷◌, List, [], length, Bool, IsTrue}
+use Rattle.sat_clause.specs.Literals.{AreBelow, ClausesAreBelow, MeetsAll, clause_holds, truths}
+use Rattle.sat_clause.specs.Propagation.{Spent}
 use Rattle.proof_checker.specs.Checking.{IsLearnt, IsRefutation}
 use Rattle.sat_core.specs.Counts.{raised, raised_by}
 use Rattle.sat_query.specs.declared.asking.Asked.{Asked}
@@ -21,10 +21,16 @@ pub record IsMet (F : List (List ℕ)) (a : List Bool) : Type 0 where
 abbrev pub NoneMeets : List (List ℕ) → Type 0
 NoneMeets F = (A : ℕ → Bool) → MeetsAll A F → ⊥
 
--- the log refutes the clauses, and with a budget has at most so many clauses before the empty one
-pub record IsShort (F : List (List ℕ)) (budget : ℕ) (log : List (List ℕ)) : Type 0 where
+-- the log refutes the clauses, and with a budget has at most that many clauses before the empty one, which stands at its
+-- end and nowhere else: each clause before it follows from those before that one, and is not empty, and where the
+-- clauses are over n variables, they are all new
+pub record IsShort (n : ℕ) (F : List (List ℕ)) (budget : ℕ) (log : List (List ℕ)) : Type 0 where
   pub refutes : IsRefutation F log
   pub within : 0 < budget → length log ≤ budget + 1
+  pub before : List (List ℕ)
+  pub ends : log ≡ before ++ [] ∷ []
+  pub learnt : IsLearnt F before (length before)
+  pub new : ClausesAreBelow n F → Spent n F (length before) before
 
 -- the log has as many clauses as the budget, each follows from those before it, and none is empty; where the clauses
 -- are over n variables, those of the log are all new
@@ -35,7 +41,7 @@ pub record IsSpent (n : ℕ) (F : List (List ℕ)) (budget : ℕ) (log : List (L
 
 abbrev pub AskedSays : ℕ → List (List ℕ) → ℕ → Asked → Type 0
 AskedSays n F budget (Sat a) = IsMet F a
-AskedSays n F budget (Unsat log) = NoneMeets F × IsShort F budget log
+AskedSays n F budget (Unsat log) = NoneMeets F × IsShort n F budget log
 AskedSays n F budget (SpentWith log) = IsSpent n F budget log
 AskedSays n F budget Stopped = Unit {0}
 
@@ -53,9 +59,9 @@ YesSays before now (Sat a) = now ≡ before
 YesSays before now (Unsat log) = now ≡ before
 YesSays before now (SpentWith log) = now ≡ before
 
--- the poll was asked at least once for each clause of the log that was learnt
+-- the poll was asked at least once for each clause of the log that was learnt, and the count never falls
 abbrev pub AskedOften : ℕ → ℕ → Asked → Type 0
-AskedOften before now (Sat a) = Unit {0}
+AskedOften before now (Sat a) = raised_by 0 before ≤ now
 AskedOften before now (Unsat log) = raised_by (length log - 1) before ≤ now
 AskedOften before now (SpentWith log) = raised_by (length log) before ≤ now
-AskedOften before now Stopped = Unit {0}
+AskedOften before now Stopped = raised_by 0 before ≤ now

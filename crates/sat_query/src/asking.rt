@@ -1,11 +1,11 @@
 ghost use Rattle.std.specs.Prelude.{ℕ, ◌≡◌, ◌+◌, ◌<◌, ◌≤◌, ◌++◌, ◌∷◌, ◌↔◌, [], false, length, IfOk, IsTrue, OnOk};
-ghost use Rattle.kv_clause.specs.Literals.{ClausesAreBelow};
+ghost use Rattle.sat_clause.specs.Literals.{ClausesAreBelow};
 ghost use Rattle.proof_checker.specs.Checking.{IsLearnt, IsRefutation};
 ghost use Rattle.sat_query.specs.Asking.{AskedOften, AskedSays, IsClauseMet, IsConfirmed, IsMet, YesSays};
 
-use kv_base::{Copied, NoMemory, Sequence};
-use kv_clause::{Assignment, Clause, Clauses, Cnf, Log, are_below, holds};
+use kv_base::{NoMemory, Sequence};
 use proof_checker::{Checked, check};
+use sat_clause::{Assignment, Clause, Clauses, Cnf, Log, are_below, holds};
 use sat_core::{Answer, Poll, Solver};
 use std::alloc::Global;
 
@@ -14,7 +14,7 @@ use std::alloc::Global;
 pub enum Asked {
     /// This assignment meets them, and has a value for each of their variables.
     Sat(Assignment),
-    /// No assignment does: each clause of this log follows, and the last is empty.
+    /// No assignment does: each clause of this log follows, the last is empty, and those before it are all new.
     Unsat(Log),
     /// The budget is spent on these clauses, which follow one after another and are all new.
     Spent(Log),
@@ -22,7 +22,7 @@ pub enum Asked {
     Stopped,
 }
 
-// A solver of the clauses.
+/// A solver of the clauses.
 fn begin(alloc: Global, clauses: &Clauses) -> Result<Solver, NoMemory>
     ensures clauses { IfOk result (λ solver. solver.clauses ≡ clauses.now) }
     ensures log { IfOk result (λ solver. solver.log ≡ []) }
@@ -35,16 +35,16 @@ fn begin(alloc: Global, clauses: &Clauses) -> Result<Solver, NoMemory>
     Ok(solver)
 }
 
-// The log with the empty clause at its end.
-fn ended(alloc: Global, log: &Log) -> Result<Log, NoMemory>
-    ensures { IfOk result (λ made. made ≡ log.now ++ [] ∷ []) }
+/// The log with the empty clause at its end.
+fn ended(alloc: Global, log: Log) -> Result<Log, NoMemory>
+    ensures { IfOk result (λ made. made ≡ log ++ [] ∷ []) }
 {
-    let mut made = log.copy(alloc)?;
+    let mut made = log;
     made.push(Sequence::new(alloc))?;
     Ok(made)
 }
 
-// Searches with a solver that has learnt nothing and has no more variables than its clauses.
+/// Searches with a solver that has learnt nothing and has no more variables than its clauses.
 fn search_with<P: Poll>(
     alloc: Global,
     solver: &mut Solver,
@@ -62,33 +62,23 @@ fn search_with<P: Poll>(
 {
     match solver.solve(&Sequence::new(alloc), budget, poll)? {
         Answer::Sat(found) => Ok(Asked::Sat(found)),
-        Answer::Unsat => Ok(Asked::Unsat(ended(alloc, solver.log())?)),
-        Answer::Spent => Ok(Asked::Spent(solver.log().copy(alloc)?)),
+        Answer::Unsat => {
+            let log = ended(alloc, solver.take_log())?;
+            Ok(Asked::Unsat(log))
+        }
+        Answer::Spent => Ok(Asked::Spent(solver.take_log())),
         Answer::Stopped => Ok(Asked::Stopped),
     }
 }
 
-// Searches for the answer.
-fn search<P: Poll>(alloc: Global, cnf: &Cnf, budget: u32, poll: &mut P) -> Result<Asked, NoMemory>
-    requires { P.ready poll.old }
-    ensures answer { IfOk result (λ asked. AskedSays cnf.now.vars cnf.now.clauses budget asked) }
-    ensures poll { P.ready poll.new }
-    ensures held { P.held poll.new ≡ P.held poll.old }
-    ensures asks { IfOk result (λ asked. AskedOften (P.asks poll.old) (P.asks poll.new) asked) }
-    ensures yeses { IfOk result (λ asked. YesSays (P.yeses poll.old) (P.yeses poll.new) asked) }
-{
-    let mut solver = begin(alloc, &cnf.clauses)?;
-    search_with(alloc, &mut solver, budget, poll)
-}
-
-// Whether the assignment has a value for each variable of the clause, and some literal of it is true.
+/// Whether the assignment has a value for each variable of the clause, and some literal of it is true.
 fn is_met(clause: &Clause, assignment: &Assignment) -> bool
     ensures { IsTrue result ↔ IsClauseMet clause.now assignment.now }
 {
     are_below(clause, assignment.len() as u64) && holds(clause, assignment)
 }
 
-// Whether the assignment meets each of the clauses.
+/// Whether the assignment meets each of the clauses.
 fn are_met(clauses: &Clauses, assignment: &Assignment) -> bool
     ensures { IsTrue result ↔ IsMet clauses.now assignment.now }
 {
@@ -98,7 +88,7 @@ fn are_met(clauses: &Clauses, assignment: &Assignment) -> bool
         .all(|clause| is_met(clause, assignment))
 }
 
-// Whether the log is checked to refute the clauses.
+/// Whether the log is checked to refute the clauses.
 fn refutes(alloc: Global, cnf: &Cnf, log: &Log) -> Result<bool, NoMemory>
     ensures { IfOk result (λ refuted. IsTrue refuted ↔ IsRefutation cnf.now.clauses log.now) }
 {
@@ -106,7 +96,7 @@ fn refutes(alloc: Global, cnf: &Cnf, log: &Log) -> Result<bool, NoMemory>
     Ok(matches!(checked, Checked::Refutes))
 }
 
-// Whether the log is checked to have as many clauses as the budget, all of which follow and none of which is empty.
+/// Whether the log is checked to have as many clauses as the budget, all of which follow and none of which is empty.
 fn spends(alloc: Global, cnf: &Cnf, log: &Log, budget: u32) -> Result<bool, NoMemory>
     ensures { IfOk result (λ spent. IsTrue spent ↔ IsLearnt cnf.now.clauses log.now budget) }
 {
@@ -114,7 +104,7 @@ fn spends(alloc: Global, cnf: &Cnf, log: &Log, budget: u32) -> Result<bool, NoMe
     Ok(matches!(checked, Checked::Learns(many) if many == budget as usize))
 }
 
-// Whether the answer is confirmed by evaluating its assignment or checking its log, which it always is.
+/// Whether the answer is confirmed by evaluating its assignment or checking its log, which it always is.
 fn is_confirmed(alloc: Global, cnf: &Cnf, budget: u32, asked: &Asked) -> Result<bool, NoMemory>
     ensures exact { IfOk result (λ confirmed. IsTrue confirmed ↔ IsConfirmed cnf.now.clauses budget asked.now) }
     ensures always { AskedSays cnf.now.vars cnf.now.clauses budget asked.now → IfOk result IsTrue }
@@ -138,7 +128,7 @@ pub fn ask<P: Poll>(alloc: Global, cnf: &Cnf, budget: u32, poll: &mut P) -> Resu
     ensures asks { IfOk result (λ asked. AskedOften (P.asks poll.old) (P.asks poll.new) asked) }
     ensures yeses { IfOk result (λ asked. YesSays (P.yeses poll.old) (P.yeses poll.new) asked) }
 {
-    let asked = search(alloc, cnf, budget, poll)?;
+    let asked = search_with(alloc, &mut begin(alloc, &cnf.clauses)?, budget, poll)?;
     // Each answer is proved to be confirmed. The test is there for a program that was compiled wrongly, and an
     // `unreachable!` in it would let the compiler leave it out.
     if !is_confirmed(alloc, cnf, budget, &asked)? {

@@ -1,10 +1,10 @@
-ghost use Rattle.std.specs.Prelude.{ℕ, ◌≡◌, ◌+◌, ◌-◌, ◌<◌, ◌≤◌, ◌++◌, ◌∷◌, [], drop, length, true, false, IsErr, IfOk, OnOk, OnErr};
+ghost use Rattle.std.specs.Prelude.{ℕ, ◌≡◌, ◌-◌, ◌≤◌, ◌++◌, ◌∷◌, [], length, true, false, IsErr, IfOk, OnOk, OnErr};
 ghost use Rattle.sat_core.specs.Counts.{raised_by};
-ghost use Rattle.sat_core.specs.Solving.{IsLearnt};
+ghost use Rattle.sat_core.specs.Solving.{IsRoom, Learns};
 ghost use Rattle.sat_query.specs.Keeping.{KeptSays, YesSays};
 
 use kv_base::{Copied, NoMemory};
-use kv_clause::{Assignment, Clause, Lits, Log};
+use sat_clause::{Assignment, Clause, Lits, Log};
 use sat_core::{Answer, Poll, Solver};
 use std::alloc::Global;
 use std::marker::Model;
@@ -12,12 +12,13 @@ use std::marker::Model;
 /// What a kept solver answers.
 #[derive(Debug, Drop)]
 pub enum KeptAnswer {
-    /// This assignment meets all clauses added, and the asked literals are true.
+    /// This assignment has a value for each variable, it meets all clauses added and learnt, and the asked literals are
+    /// true.
     Sat(Assignment),
     /// No assignment does: propagating the asked literals over the clauses added and learnt reaches one with every
     /// literal false, or two of them are complementary.
     Unsat,
-    /// The budget is spent: the whole log, which grew by so many clauses.
+    /// The budget is spent: the whole log, which grew by that many clauses.
     Spent(Log),
     /// The poll said yes.
     Stopped,
@@ -41,7 +42,7 @@ impl Model for Kept {
     ghost view = { λ k. record { clauses = k.solver.clauses; log = k.solver.log; vars = k.solver.vars; refused = k.is_refused } };
 }
 
-// Asks the solver.
+/// Asks the solver.
 fn asked_of<P: Poll>(
     alloc: Global,
     solver: &mut Solver,
@@ -50,10 +51,9 @@ fn asked_of<P: Poll>(
     poll: &mut P,
 ) -> Result<KeptAnswer, NoMemory>
     requires { P.ready poll.old }
-    ensures learnt { OnOk result (IsLearnt solver.new.vars solver.old.clauses solver.new.clauses) }
-    ensures log { OnOk result (solver.new.log ≡ solver.old.log ++ drop (length solver.old.clauses) solver.new.clauses) }
-    ensures within { OnOk result (0 < budget → length solver.new.clauses ≤ length solver.old.clauses + budget) }
-    ensures answer { IfOk result (λ answer. KeptSays solver.old.clauses solver.new.clauses solver.old.log solver.new.log asked.now budget answer) }
+    ensures learns { OnOk result (Learns solver.old solver.new budget) }
+    ensures vars { OnOk result (IsRoom asked.now solver.old.vars solver.new.vars) }
+    ensures answer { IfOk result (λ answer. KeptSays solver.new.vars solver.old.clauses solver.new.clauses solver.old.log solver.new.log asked.now budget answer) }
     ensures poll { P.ready poll.new }
     ensures held { P.held poll.new ≡ P.held poll.old }
     ensures asks { OnOk result (raised_by (length solver.new.clauses - length solver.old.clauses) (P.asks poll.old) ≤ P.asks poll.new) }
@@ -83,6 +83,7 @@ impl Kept {
     pub fn add(&mut self, clause: &Clause) -> Result<(), NoMemory>
         ensures clauses { OnOk result (self.new.clauses ≡ self.old.clauses ++ clause.now ∷ []) }
         ensures log { OnOk result (self.new.log ≡ self.old.log) }
+        ensures vars { OnOk result (IsRoom clause.now self.old.vars self.new.vars) }
         ensures working { OnOk result (self.new.refused ≡ false) }
         ensures broken { OnErr result (self.new.refused ≡ true) }
         ensures refused { self.old.refused ≡ true → IsErr result }
@@ -106,10 +107,9 @@ impl Kept {
         poll: &mut P,
     ) -> Result<KeptAnswer, NoMemory>
         requires { P.ready poll.old }
-        ensures learnt { OnOk result (IsLearnt self.new.vars self.old.clauses self.new.clauses) }
-        ensures log { OnOk result (self.new.log ≡ self.old.log ++ drop (length self.old.clauses) self.new.clauses) }
-        ensures within { OnOk result (0 < budget → length self.new.clauses ≤ length self.old.clauses + budget) }
-        ensures answer { IfOk result (λ answer. KeptSays self.old.clauses self.new.clauses self.old.log self.new.log asked.now budget answer) }
+        ensures learns { OnOk result (Learns self.old self.new budget) }
+        ensures vars { OnOk result (IsRoom asked.now self.old.vars self.new.vars) }
+        ensures answer { IfOk result (λ answer. KeptSays self.new.vars self.old.clauses self.new.clauses self.old.log self.new.log asked.now budget answer) }
         ensures working { OnOk result (self.new.refused ≡ false) }
         ensures broken { OnErr result (self.new.refused ≡ true) }
         ensures refused { self.old.refused ≡ true → IsErr result }

@@ -3,9 +3,9 @@ use Rattle.std.specs.List.{Contains}
 use Rattle.std.proofs.lemmas.Bool.{cases_eq, cases_lt, false≢true}
 use Rattle.std.proofs.lemmas.List.{length-set, length-map, get_or-map, get_or-set_same, get_or-set_other, get_or_default, set_past}
 use Rattle.std.proofs.lemmas.List.Elements.{Contains-push, Contains-append_left, Contains-push_cases, Contains-get_or}
-use Rattle.kv_clause.specs.Literals.{complement_of}
-use Rattle.kv_clause.specs.Propagation.{clause_at, Derived, given, unit}
-use Rattle.kv_clause.proofs.Truths.{complement_twice, complement_variable}
+use Rattle.sat_clause.specs.Literals.{complement_of}
+use Rattle.sat_clause.specs.Propagation.{clause_at, Derived, given, unit}
+use Rattle.sat_clause.proofs.Truths.{complement_twice, complement_variable}
 use Rattle.sat_search.proofs.Marks.{set-cases, set-kept}
 use Rattle.sat_search.proofs.Derivations.{Derived-wider}
 use Rattle.sat_engine.specs.declared.trail.Reason.TheVariants.{Clause}

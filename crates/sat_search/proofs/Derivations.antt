@@ -1,8 +1,8 @@
 -- More literals, or one more clause, keep what propagation sets true.
 use Rattle.std.proofs.Common.{ℕ, ◌++◌, List, [], ◌∷◌, refl}
 use Rattle.std.specs.List.{Contains}
-use Rattle.kv_clause.specs.Propagation.{Derived}
-use Rattle.kv_clause.proofs.Propagation.{Derived-more, HasAll-append}
+use Rattle.sat_clause.specs.Propagation.{Derived}
+use Rattle.sat_clause.proofs.Propagation.{Derived-more, HasAll-append}
 
 pub Derived-wider : (F : List (List ℕ)) (A B : List ℕ) → ((l : ℕ) → Contains A l → Contains B l) → (l : ℕ) → Derived F A l → Derived F B l
 Derived-wider F A B sub l d = Derived-more F F A B (λ i lt. (i, lt, refl)) sub l d

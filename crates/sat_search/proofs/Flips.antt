@@ -1,18 +1,17 @@
-use Rattle.std.proofs.Common.{ℕ, ◌≡◌, ◌<◌, ◌≤◌, ◌++◌, inl, inr, List, [], ◌∷◌, length, take, Bool, refl, sym, ap, subst, ◌∙◌, arith}
+use Rattle.std.proofs.Common.{ℕ, ◌≡◌, ◌<◌, ◌≤◌, ◌++◌, List, [], ◌∷◌, length, take, Bool, refl, sym, ap, subst, ◌∙◌, arith}
 use Rattle.std.specs.List.{Contains}
-use Rattle.std.proofs.lemmas.Bool.{cases_lt}
-use Rattle.std.proofs.lemmas.List.{length-append, length-take-le, get_or_push, get_or_append_left, get_or-take, take-take}
-use Rattle.kv_clause.specs.Propagation.{clause_at, Conflict}
+use Rattle.std.proofs.lemmas.List.{length-take-le, get_or-take, take-take}
+use Rattle.sat_clause.specs.Propagation.{clause_at, Conflict}
 use Rattle.sat_search.specs.Rank.{rank}
 use Rattle.sat_engine.specs.declared.trail.Reason.TheVariants.{Clause}
 use Rattle.sat_engine.specs.declared.trail.Step.{Step}
 use Rattle.sat_engine.specs.Trail.{none_step, IsSet, IsTrail}
-use Rattle.sat_engine.specs.Look.{InRange, AreInRange, AreFalseBut}
+use Rattle.sat_engine.specs.Look.{AreInRange, AreFalseBut}
 use Rattle.sat_engine.proofs.Trails.{IsTrail-length}
 use Rattle.sat_engine.proofs.Growing.{Grows-imply}
 use Rattle.sat_search.specs.declared.parts.Parts.{Parts}
-use Rattle.sat_search.specs.New.{IsIndexed}
-use Rattle.kv_clause.specs.Propagation.{Includes}
+use Rattle.sat_index.specs.Listed.{IsIndexed}
+use Rattle.sat_clause.specs.Propagation.{Includes}
 use Rattle.sat_search.specs.State.{is_choice, word, IsState, IsReady, IsNew}
 use Rattle.sat_search.specs.Repair.{IsJump}
 use Rattle.sat_search.specs.Choice.{IsChoiceAt}
@@ -81,16 +80,6 @@ IsReady-make A p q r s size range few ix lists flags unset marks clean = record 
   clean = clean;
   small = let d = r.small in omega arith;
 }
-
--- the range of one more clause
-pub AreInRange-push : (F : List (List ℕ)) (c : List ℕ) (n : ℕ) → AreInRange F n → InRange c n → AreInRange (F ++ c ∷ []) n
-AreInRange-push F c n all one i h = elim (cases_lt i (length F)) [
-  | inl below ↦ subst (λ (x : List ℕ). InRange x n) (sym (get_or_append_left F (c ∷ []) [] i below)) (all i below)
-  | inr above ↦ let same : length F ≡ i = omega (arith, length-append F (c ∷ []), h) in subst (λ (x : List ℕ). InRange x n) (sym (get_or_push F c [] i same)) one
-]
-
-pub clause_at-last : (F : List (List ℕ)) (c : List ℕ) (n : ℕ) → n ≡ length F → clause_at (F ++ c ∷ []) n ≡ c
-clause_at-last F c n e = get_or_push F c [] n (sym e)
 
 -- literals of a clause that another contains
 pub others_in : (c d : List ℕ) (truth : List Bool) (l : ℕ) → Includes c d → AreFalseBut c truth l → AreFalseBut d truth l

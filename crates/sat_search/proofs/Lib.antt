@@ -1,6 +1,4 @@
 pub mod Derivations
-pub mod Sketches
-pub mod Blocks
 pub mod Ranks
 pub mod Marks
 pub mod Analyses

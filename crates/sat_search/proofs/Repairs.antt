@@ -1,11 +1,11 @@
-use Rattle.std.proofs.Common.{ℕ, ◌≡◌, ◌≢◌, ◌+◌, ◌-◌, ◌/◌, ◌<◌, ◌≤◌, ◌++◌, inl, inr, List, [], ◌∷◌, length, get_or, take, set, Bool, false, None, Some, Option, MatchOption, sym, ap, subst, ◌∙◌, arith}
+use Rattle.std.proofs.Common.{ℕ, ◌≡◌, ◌≢◌, ◌+◌, ◌-◌, ◌/◌, ◌<◌, ◌≤◌, inl, inr, List, [], ◌∷◌, length, get_or, take, Bool, false, None, Some, Option, MatchOption, sym, ap, subst, ◌∙◌, arith}
 use Rattle.std.specs.List.{Contains}
 use Rattle.std.proofs.lemmas.Bool.{cases_eq, cases_lt, false≢true}
-use Rattle.std.proofs.lemmas.List.{length-append, length-take-le, length_push, get_or-take, get_or_append_left, get_or_push, get_or_default, get_or-set_same, get_or-set_other, take-take}
+use Rattle.std.proofs.lemmas.List.{length-take-le, length_push, get_or-take, get_or_append_left, get_or_push, get_or_default, take-take}
 use Rattle.std.proofs.lemmas.List.Elements.{Contains-push_cases, Contains-get_or}
-use Rattle.kv_clause.specs.Literals.{complement_of}
-use Rattle.kv_clause.specs.Propagation.{clause_at, Conflict}
-use Rattle.kv_clause.proofs.Truths.{complement_twice, complement_variable}
+use Rattle.sat_clause.specs.Literals.{complement_of}
+use Rattle.sat_clause.specs.Propagation.{clause_at, Conflict}
+use Rattle.sat_clause.proofs.Truths.{complement_twice, complement_variable}
 use Rattle.sat_engine.specs.declared.trail.Reason.{Reason}
 use Rattle.sat_engine.specs.declared.trail.Reason.TheVariants.{Free, Assumed}
 use Rattle.sat_engine.specs.declared.trail.Step.{Step}
@@ -14,11 +14,7 @@ use Rattle.sat_engine.specs.Look.{InRange, AreInRange, AreFalse}
 use Rattle.sat_engine.proofs.Trails.{each_Contains, lit_at-take}
 use Rattle.sat_search.specs.declared.repair.Spot.{Spot}
 use Rattle.sat_search.specs.Analysis.{IsSite, IsLearnt}
-use Rattle.sat_search.specs.declared.index.Entry.{Entry}
-use Rattle.sat_search.specs.Sketch.{IsSketch}
-use Rattle.sat_search.specs.New.{IsEntry, IsPut, IsIndexed}
 use Rattle.sat_search.specs.State.{is_choice, IsState}
-use Rattle.sat_search.proofs.Blocks.{IsPut-has, IsPut-keeps}
 use Rattle.sat_search.specs.Choice.{IsLastPlace, IsChoiceAt, NoChoice}
 use Rattle.sat_search.specs.Repair.{IsBack, IsSpot, IsJump}
 use Rattle.sat_search.proofs.States.{Conflict-from, no_free, false_in, IsState-cut, IsSite-from}
@@ -76,39 +72,6 @@ module _ (F : List (List ℕ)) (A : List ℕ) (steps : List Step) (truth : List 
     where
       clash : Free ≡ Assumed → ⊥
       clash f = cc
-
--- a clause that was listed under one of its literals
-pub IsIndexed-push : (F : List (List ℕ)) (lists : List (List Entry)) (c : List ℕ) (l : ℕ) (n : Entry) (here : List Entry) → IsIndexed F lists → l < length lists → Contains c l → n.number ≡ length F → IsSketch c n.sketch → IsPut (get_or lists l []) n here → IsIndexed (F ++ c ∷ []) (set lists l here)
-IsIndexed-push F lists c l n here ix lt has e sk put i h = elim (cases_lt i (length F)) [
-  | inl below ↦
-      let w = ix i below in
-      let same : clause_at F i ≡ clause_at (F ++ c ∷ []) i = sym (get_or_append_left F (c ∷ []) [] i below) in
-      let was : IsEntry F i w.2.0 = w.2.2 in
-      let is : IsEntry (F ++ c ∷ []) i w.2.0 = record {
-        number = was.number;
-        sketch = subst (λ (x : List ℕ). IsSketch x w.2.0.sketch) same was.sketch;
-      } in
-      (w.0, subst (λ (x : List ℕ). Contains x w.0) same w.1, (w.2.0, kept w.0 w.2.0 w.2.1, is))
-  | inr above ↦
-      let len = length-append F (c ∷ []) in
-      let same : length F ≡ i = omega (arith, len, h) in
-      let clause : c ≡ clause_at (F ++ c ∷ []) i = sym (get_or_push F c [] i same) in
-      let is : IsEntry (F ++ c ∷ []) i n = record {
-        number = e ∙ same;
-        sketch = subst (λ (x : List ℕ). IsSketch x n.sketch) clause sk;
-      } in (
-        l,
-        subst (λ (x : List ℕ). Contains x l) clause has,
-        (n, subst (λ (x : List Entry). Contains x n) (sym (get_or-set_same lists l here [] lt)) (IsPut-has (get_or lists l []) here n put), is),
-      )
-]
-  where
-    kept : (m : ℕ) (i : Entry) → Contains (get_or lists m []) i → Contains (get_or (set lists l here) m []) i
-    kept m i w = elim (cases_eq m l) [
-      | inl e ↦ subst (λ (x : ℕ). Contains (get_or (set lists l here) x []) i) (sym e)
-          (subst (λ (x : List Entry). Contains x i) (sym (get_or-set_same lists l here [] lt)) (IsPut-keeps (get_or lists l []) here n i put (subst (λ (x : ℕ). Contains (get_or lists x []) i) e w)))
-      | inr ne ↦ subst (λ (x : List Entry). Contains x i) (sym (get_or-set_other lists l m here [] ne)) w
-    ]
 
 pub IsBack-from : (steps : List Step) (place here : List ℕ) (start : ℕ) (c : List ℕ) (last : Option ℕ) (from to : ℕ) → 0 < length c → start ≤ length steps → place ≡ here
     → IsLastPlace (take (length c - 1) c) (length (take (length c - 1) c)) place last
@@ -227,7 +190,7 @@ learnt_low F truth place floor c h i a =
     let same : get_or c i 0 ≡ get_or h.low i 0 = ap (λ (x : List ℕ). get_or x i 0) h.is ∙ get_or_append_left h.low (complement_of h.uip ∷ []) 0 i (omega arith) in
     subst (λ (x : ℕ). get_or place (x / 2) 0 < floor) (sym same) (h.low_below (get_or h.low i 0) (Contains-get_or h.low i 0 (omega arith)))
 
--- the site of the analysis, after the cut behind the spot's level
+-- the site of the analysis, after the cut after the spot's level
 pub site_at : (F : List (List ℕ)) (A : List ℕ) (old mid : List Step) (truth : List Bool) (place : List ℕ) (start n end : ℕ) (s : Spot) (here : List ℕ) → IsTrail mid truth here → AreInRange F (length truth) → IsState F A old start → IsSpot F old place start n s
     → mid ≡ take end old → end ≤ length old → s.top < end → NoChoice old (s.top + 1) end → IsSite F mid truth here start s.floor
 site_at F A old mid truth place start n end s here t range st sp e le lt off =

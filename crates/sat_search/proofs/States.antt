@@ -3,10 +3,10 @@ use Rattle.std.specs.List.{Contains}
 use Rattle.std.proofs.lemmas.Bool.{cases_lt, false≢true}
 use Rattle.std.proofs.lemmas.List.{length-append, length-take-le, length_push, length-map, get_or-take, get_or_append_left, get_or_push, map-append, take-append-drop, drop_more}
 use Rattle.std.proofs.lemmas.List.Elements.{Contains-push_cases, Contains-get_or}
-use Rattle.kv_clause.specs.Literals.{complement_of}
-use Rattle.kv_clause.specs.Propagation.{clause_at, Derived, given, unit, Conflict}
+use Rattle.sat_clause.specs.Literals.{complement_of}
+use Rattle.sat_clause.specs.Propagation.{clause_at, Derived, given, unit, Conflict}
 use Rattle.sat_search.specs.Rank.{rank}
-use Rattle.kv_clause.proofs.Truths.{complement_twice, complement_variable}
+use Rattle.sat_clause.proofs.Truths.{complement_twice, complement_variable}
 use Rattle.sat_search.proofs.Derivations.{Derived-wider, Derived-push}
 use Rattle.sat_search.proofs.Ranks.{rank-flip}
 use Rattle.sat_engine.specs.declared.trail.Reason.{Reason}
@@ -17,8 +17,9 @@ use Rattle.sat_engine.specs.Look.{AreInRange, AreFalse}
 use Rattle.sat_engine.specs.Grow.{IsImplied, Grows}
 use Rattle.sat_engine.proofs.Trails.{lit_at-push, lit_at-take}
 use Rattle.sat_engine.proofs.Growing.{Before-same, IsReason-same, AreReasons-grown, same_to}
+use Rattle.sat_engine.proofs.Ranges.{AreReasons-more}
 use Rattle.sat_search.specs.Analysis.{IsSite, IsLearnt}
-use Rattle.kv_clause.specs.Propagation.{Includes}
+use Rattle.sat_clause.specs.Propagation.{Includes}
 use Rattle.sat_search.specs.State.{is_choice, word, IsState, IsNew}
 use Rattle.sat_search.proofs.Analyses.{apart}
 
@@ -73,22 +74,11 @@ IsState-grow F A xs ys start g s =
 pub IsState-more : (F : List (List ℕ)) (c A : List ℕ) (steps : List Step) (start : ℕ) → IsState F A steps start → IsState (F ++ c ∷ []) A steps start
 IsState-more F c A steps start s = record {
   early = s.early;
-  reasons = λ i h. more i (reason_at steps i) (s.reasons i h);
+  reasons = AreReasons-more F c A steps s.reasons;
   facts = λ i h. Derived-push F c [] [] (λ l w. w) (lit_at steps i) (s.facts i h);
   unchosen = s.unchosen;
   free = s.free;
 }
-  where
-    more : (i : ℕ) (r : Reason) → IsReason F A steps i r → IsReason (F ++ c ∷ []) A steps i r
-    more i Free h = h
-    more i Assumed h = h
-    more i (Clause n) h =
-        let same : clause_at F n ≡ clause_at (F ++ c ∷ []) n = sym (get_or_append_left F (c ∷ []) [] n h.0) in
-        let a = h.0 in (
-          omega (arith, length-append F (c ∷ [])),
-          subst (λ (x : List ℕ). Contains x (lit_at steps i)) same h.1,
-          λ m w ne. h.2 m (subst (λ (x : List ℕ). Contains x m) (sym same) w) ne,
-        )
 
 pub IsState-choose : (F : List (List ℕ)) (A : List ℕ) (steps : List Step) (start l : ℕ) (r : Reason) → IsState F A steps start → IsReason F A (steps ++ record { lit = l; reason = r } ∷ []) (length steps) r
     → (r ≡ Free → (a : ℕ) → Contains A a → Before steps (length steps) a) → IsState F A (steps ++ record { lit = l; reason = r } ∷ []) start

@@ -1,10 +1,10 @@
 use Rattle.std.proofs.Common.{ℕ, ◌≡◌, ◌≢◌, ◌<◌, ◌≤◌, ◌⊎◌, ◌++◌, inl, inr, List, [], ◌∷◌, length, get_or, drop, Bool, true, false, sym, ap, subst, ◌∙◌, arith}
 use Rattle.std.specs.List.{Contains}
 use Rattle.std.proofs.lemmas.List.{get_or_read, append-nil, length-map, map-append, take-append-drop, get_or_default}
-use Rattle.kv_clause.specs.Literals.{complement_of}
-use Rattle.kv_clause.specs.Propagation.{Derived, given, Refuted}
+use Rattle.sat_clause.specs.Literals.{complement_of}
+use Rattle.sat_clause.specs.Propagation.{Derived, given, Refuted}
 use Rattle.sat_search.specs.Rank.{rank}
-use Rattle.kv_clause.proofs.Propagation.{Refuted-both}
+use Rattle.sat_clause.proofs.Propagation.{Refuted-both}
 use Rattle.sat_search.proofs.Ranks.{rank-more}
 use Rattle.sat_engine.specs.declared.trail.Reason.TheVariants.{Free}
 use Rattle.sat_engine.specs.declared.trail.Step.{Step}

@@ -1,7 +1,7 @@
 use Rattle.std.specs.Prelude.{ℕ, ◌≡◌, ◌≢◌, ◌*◌, ◌/◌, ◌<◌, ◌≤◌, ◌⊎◌, List, [], ◌∷◌, ◌++◌, length, slice_index, Bool, Option, None, Some}
 use Rattle.std.specs.List.{Contains}
-use Rattle.kv_clause.specs.Literals.{complement_of}
-use Rattle.kv_clause.specs.Propagation.{clause_at, Derived, Conflict, Follows}
+use Rattle.sat_clause.specs.Literals.{complement_of}
+use Rattle.sat_clause.specs.Propagation.{clause_at, Derived, Conflict, Follows}
 use Rattle.sat_engine.specs.declared.trail.Reason.TheVariants.{Clause}
 use Rattle.sat_engine.specs.declared.trail.Step.{Step}
 use Rattle.sat_engine.specs.Trail.{IsSet, IsTrail, lit_at, reason_at}

@@ -1,7 +1,5 @@
 pub mod Mark
 pub mod Analysis
-pub mod Sketch
-pub mod New
 pub mod Rank
 pub mod State
 pub mod Choice

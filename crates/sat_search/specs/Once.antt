@@ -1,5 +1,5 @@
 use Rattle.std.specs.Prelude.{ℕ, ◌≡◌, ◌<◌, ◌++◌, ◌∷◌, List, [], length, take, false}
-use Rattle.kv_clause.specs.Propagation.{clause_at, Conflict}
+use Rattle.sat_clause.specs.Propagation.{clause_at, Conflict}
 use Rattle.sat_engine.specs.Look.{AreFalse}
 use Rattle.sat_engine.specs.declared.trail.Step.{Step}
 use Rattle.sat_search.specs.Choice.{IsChoiceAt}

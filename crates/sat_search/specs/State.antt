@@ -1,14 +1,14 @@
 use Rattle.std.specs.Prelude.{ℕ, ◌≡◌, ◌*◌, ◌<◌, ◌≤◌, List, [], map, length, Bool, true, false}
 use Rattle.std.specs.List.{Contains}
-use Rattle.kv_clause.specs.Propagation.{clause_at, Derived, HasComplements, Follows}
+use Rattle.sat_clause.specs.Propagation.{clause_at, Derived, HasComplements, Follows}
 use Rattle.sat_engine.specs.declared.trail.Reason.{Reason}
 use Rattle.sat_engine.specs.declared.trail.Reason.TheVariants.{Free, Assumed, Clause}
 use Rattle.sat_engine.specs.declared.trail.Step.{Step}
 use Rattle.sat_engine.specs.Trail.{IsSet, Before, AreReasons, lit_at, reason_at}
 use Rattle.sat_engine.specs.Look.{InRange, AreInRange}
 use Rattle.sat_search.specs.declared.parts.Parts.{Parts}
-use Rattle.sat_search.specs.New.{IsIndexed}
-use Rattle.kv_clause.specs.Propagation.{Includes}
+use Rattle.sat_index.specs.Listed.{IsIndexed}
+use Rattle.sat_clause.specs.Propagation.{Includes}
 
 abbrev pub is_choice : Reason → Bool
 is_choice Free = true

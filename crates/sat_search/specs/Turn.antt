@@ -1,6 +1,6 @@
 use Rattle.std.specs.Prelude.{ℕ, ◌≡◌, ◌<◌, ◌++◌, ◌∷◌, List, [], length, Bool}
 use Rattle.std.specs.List.{Contains}
-use Rattle.kv_clause.specs.Propagation.{clause_at, Refuted}
+use Rattle.sat_clause.specs.Propagation.{clause_at, Refuted}
 use Rattle.sat_search.specs.Rank.{rank}
 use Rattle.sat_engine.specs.Trail.{IsSet}
 use Rattle.sat_search.specs.declared.parts.Parts.{Parts}

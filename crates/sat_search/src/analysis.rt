@@ -1,7 +1,7 @@
 ghost use Rattle.std.specs.Prelude.{◌≡◌, ◌≢◌, ℕ, ◌+◌, ◌*◌, ◌/◌, ◌%◌, ◌<◌, ◌≤◌, ◌⊎◌, Bool, true, false, length, slice_index, IfOk, OnOk};
 ghost use Rattle.std.specs.List.{Contains};
-ghost use Rattle.kv_clause.specs.Literals.{complement_of};
-ghost use Rattle.kv_clause.specs.Propagation.{clause_at};
+ghost use Rattle.sat_clause.specs.Literals.{complement_of};
+ghost use Rattle.sat_clause.specs.Propagation.{clause_at};
 ghost use Rattle.sat_engine.specs.Trail.{IsSet, lit_at};
 ghost use Rattle.sat_engine.specs.Look.{AreFalse};
 ghost use Rattle.sat_search.specs.Mark.{IsMarkedAt, IsNext};
@@ -57,6 +57,7 @@ fn resolve(
     }
 }
 
+/// A marked place from `floor` on and before `at`, if there is one.
 fn next_witness(
     trail: &Trail,
     marks: &[bool],

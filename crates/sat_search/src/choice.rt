@@ -7,6 +7,7 @@ ghost use Rattle.sat_search.specs.Choice.{IsLastPlace, IsChoiceAt, NoChoice};
 
 use sat_engine::{Reason, Trail};
 
+/// Whether a literal was set by choice or by assumption.
 fn chosen(reason: Reason) -> bool
     ensures { result ≡ is_choice reason }
 {
@@ -30,6 +31,7 @@ pub fn last_place(clause: &[u32], place: &[usize]) -> Option<usize>
     last
 }
 
+/// The later of two places.
 fn later(last: Option<usize>, here: usize) -> Option<usize>
     ensures { MatchOption last (result ≡ Some here) (λ t. (t ≤ here → result ≡ Some here) × (here < t → result ≡ last)) }
 {

@@ -28,7 +28,7 @@ struct Frame {
 enum Look {
     /// nothing: all its literals follow
     Done,
-    /// the literal at this place, and the reason goes on behind it
+    /// the literal at this place, and the reason goes on after it
     Further(usize, usize),
     /// a literal that doesn't follow
     Stands,
@@ -58,27 +58,33 @@ pub struct Implied {
     levels: u64,
 }
 
+/// A word with the bit set that a level says.
 fn bit(level: usize) -> u64 {
     1u64 << (level % 64)
 }
 
 impl Grounds<'_> {
+    /// The step at a place of the trail.
     fn step(&self, at: usize) -> Option<Step> {
         self.trail.steps.get(at).copied()
     }
 
+    /// The place at which a variable was set last.
     fn place(&self, var: usize) -> usize {
         self.trail.place.get(var).copied().unwrap_or(0)
     }
 
+    /// Whether a variable is marked.
     fn is_marked(&self, var: usize) -> bool {
         self.marks.get(var).copied().unwrap_or(false)
     }
 
+    /// Whether a variable is marked, or was set before `start`.
     fn is_settled(&self, var: usize) -> bool {
         self.is_marked(var) || self.place(var) < self.start
     }
 
+    /// Whether a clause has set the literal at a place.
     fn has_reason(&self, at: usize) -> bool {
         match self.step(at) {
             Some(step) => matches!(step.reason, Reason::Clause(_)),
@@ -86,7 +92,7 @@ impl Grounds<'_> {
         }
     }
 
-    // The literal at a place, and the clause that set it.
+    /// The literal at a place, and the clause that set it.
     fn reason(&self, at: usize) -> Option<(u32, &[u32])> {
         let step = self.step(at)?;
         match step.reason {
@@ -119,10 +125,12 @@ impl Implied {
         self.found.as_slice()
     }
 
+    /// What was found of a variable.
     fn verdict(&self, var: usize) -> Verdict {
         self.verdicts.get(var).copied().unwrap_or(Verdict::Open)
     }
 
+    /// Notes what was found of a variable.
     fn judge(&mut self, var: usize, verdict: Verdict) -> Result<(), NoMemory> {
         for _var in self.verdicts.len()..var.saturating_add(1) {
             self.verdicts.push(Verdict::Open)?;
@@ -134,12 +142,12 @@ impl Implied {
         Ok(())
     }
 
-    // Whether the literal at a place may follow: a clause has set it, on the level of a listed literal.
+    /// Whether the literal at a place may follow: a clause has set it, on the level of a listed literal.
     fn may_follow(&self, grounds: &Grounds, levels: &Levels, at: usize) -> bool {
         grounds.has_reason(at) && self.levels & bit(levels.level(at)) != 0
     }
 
-    // Looks at the literals of a reason from one on.
+    /// Looks at the literals of a reason from one on.
     fn look(&self, grounds: &Grounds, levels: &Levels, frame: Frame) -> Look {
         let Some((lit, clause)) = grounds.reason(frame.at) else {
             return Look::Stands;
@@ -164,6 +172,7 @@ impl Implied {
         Look::Done
     }
 
+    /// Notes what was found of the variable at a place.
     fn judge_at(&mut self, grounds: &Grounds, at: usize, verdict: Verdict) -> Result<(), NoMemory> {
         match grounds.step(at) {
             Some(step) => self.judge((step.lit / 2) as usize, verdict),
@@ -171,7 +180,7 @@ impl Implied {
         }
     }
 
-    // None of the literals whose reasons are looked through follows.
+    /// None of the literals whose reasons are looked through follows.
     fn give_up(&mut self, grounds: &Grounds) -> Result<(), NoMemory> {
         for _frame in 0..self.frames.len() {
             if let Some(frame) = self.frames.pop() {
@@ -181,7 +190,7 @@ impl Implied {
         Ok(())
     }
 
-    // Takes one look at the reason on top.
+    /// Takes one look at the reason on top.
     fn step(&mut self, grounds: &Grounds, levels: &Levels, frame: Frame) -> Result<(), NoMemory> {
         match self.look(grounds, levels, frame) {
             Look::Done => {
@@ -200,7 +209,7 @@ impl Implied {
         }
     }
 
-    // Looks whether the literal at a place follows, and finds what it follows through.
+    /// Looks whether the literal at a place follows, and finds what it follows through.
     fn look_through(
         &mut self,
         grounds: &Grounds,
@@ -218,7 +227,7 @@ impl Implied {
         Ok(())
     }
 
-    // Forgets what was found before, and takes the places of the listed literals in their order.
+    /// Forgets what was found before, and takes the places of the listed literals in their order.
     fn begin(&mut self, grounds: &Grounds, levels: &Levels, low: &[u32]) -> Result<(), NoMemory> {
         self.found.truncate(0);
         self.places.truncate(0);
@@ -232,7 +241,7 @@ impl Implied {
         Ok(())
     }
 
-    // Takes all verdicts back.
+    /// Takes all verdicts back.
     fn clear(&mut self) {
         for var in self.judged.as_slice() {
             if let Some(verdict) = self.verdicts.get_mut(*var) {

@@ -48,7 +48,7 @@ impl Levels {
         self.places.get(place).copied().unwrap_or(self.last) as usize
     }
 
-    // Whether the level wasn't seen in this count.
+    /// Whether the level wasn't seen in this count.
     fn is_new(&mut self, level: usize) -> Result<bool, NoMemory> {
         for _level in self.seen.len()..level.saturating_add(1) {
             self.seen.push(0)?;

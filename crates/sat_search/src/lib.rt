@@ -6,25 +6,23 @@
 #![tactic(auto)]
 
 mod analysis;
-mod block;
+mod assumptions;
 mod choice;
 mod cuts;
+mod deciding;
+mod forgetting;
 mod guide;
 mod implied;
-mod index;
 mod levels;
 mod mark;
-mod newness;
 mod once;
 mod parts;
 mod repair;
+mod restarting;
 mod shorten;
 mod turn;
-mod words;
 
 pub use cuts::rewind;
 pub use guide::Guide;
-pub use index::Index;
 pub use parts::Parts;
-pub use repair::record_clause;
 pub use turn::{Turn, turn_once};

@@ -1,16 +1,16 @@
 ghost use Rattle.std.specs.Prelude.{◌≡◌, ℕ, ◌+◌, ◌<◌, ◌≤◌, length, IfOk};
-ghost use Rattle.kv_clause.specs.Propagation.{clause_at};
+ghost use Rattle.sat_clause.specs.Propagation.{clause_at};
 ghost use Rattle.sat_engine.specs.Look.{AreFalse};
 ghost use Rattle.sat_search.specs.State.{IsReady};
 ghost use Rattle.sat_search.specs.Once.{OnceSays, IsDone};
 
 use crate::choice::{latest, pair};
 use crate::guide::Guide;
-use crate::newness::earlier;
 use crate::parts::Parts;
-use crate::repair::{find_spot, learn, record_clause};
+use crate::repair::{find_spot, learn};
 use kv_base::NoMemory;
 use sat_engine::{Reason, Seen, Store, Watches, look_at};
+use sat_index::{earlier, record_clause};
 use std::alloc::Global;
 
 /// What one look at a false clause led to.
@@ -26,7 +26,7 @@ pub enum Once {
     Again(u32),
 }
 
-// Has a clause that was forgotten watch a literal and the last of the others to be set.
+/// Has a clause that was forgotten watch a literal and the last of the others to be set.
 fn recall(
     store: &Store,
     place: &[usize],
@@ -48,7 +48,8 @@ fn recall(
     guide.recall(number)
 }
 
-pub fn repair_once(
+/// Looks at a false clause once.
+pub fn resolve_once(
     alloc: Global,
     parts: &mut Parts,
     assumed: &[u32],
@@ -110,7 +111,7 @@ pub fn repair_once(
 }
 
 /// Repairs the trail where a clause is false.
-pub fn repair(
+pub fn resolve_conflict(
     alloc: Global,
     parts: &mut Parts,
     assumed: &[u32],
@@ -124,7 +125,7 @@ pub fn repair(
 {
     let mut conflict = conflict;
     'again: loop {
-        match repair_once(alloc, parts, assumed, conflict)? {
+        match resolve_once(alloc, parts, assumed, conflict)? {
             Once::Refuted => return Ok(Once::Refuted),
             Once::Learnt => return Ok(Once::Learnt),
             Once::Flipped => return Ok(Once::Flipped),

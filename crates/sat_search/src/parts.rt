@@ -1,6 +1,6 @@
 use crate::guide::Guide;
-use crate::index::Index;
 use sat_engine::{Store, Trail, Watches};
+use sat_index::Index;
 
 /// What the search works on.
 #[derive(Drop)]

@@ -1,23 +1,19 @@
-ghost use Rattle.std.specs.Prelude.{◌≡◌, ℕ, ◌+◌, ◌-◌, ◌*◌, ◌/◌, ◌<◌, ◌≤◌, ◌++◌, ◌∷◌, [], Bool, true, false, length, slice_index, take, MatchOption, IfSome, IfOk, OnOk};
+ghost use Rattle.std.specs.Prelude.{◌≡◌, ℕ, ◌+◌, ◌-◌, ◌*◌, ◌/◌, ◌<◌, ◌≤◌, Bool, true, false, length, slice_index, take, MatchOption, IfSome, IfOk, OnOk};
 ghost use Rattle.std.specs.List.{Contains};
-ghost use Rattle.kv_clause.specs.Literals.{complement_of};
-ghost use Rattle.kv_clause.specs.Propagation.{clause_at, Conflict};
+ghost use Rattle.sat_clause.specs.Literals.{complement_of};
+ghost use Rattle.sat_clause.specs.Propagation.{clause_at, Conflict};
 ghost use Rattle.sat_engine.specs.Trail.{IsSet, reason_at, lit_at};
 ghost use Rattle.sat_engine.specs.Look.{InRange, AreInRange, AreFalse};
 ghost use Rattle.sat_search.specs.Choice.{IsChoiceAt, NoChoice};
-ghost use Rattle.sat_search.specs.New.{IsIndexed};
-ghost use Rattle.sat_search.specs.State.{IsState, IsReady};
+ghost use Rattle.sat_search.specs.State.{IsState};
 ghost use Rattle.sat_search.specs.Repair.{IsBack, IsFound, IsSpot, IsJump};
 
 use crate::analysis::analyze;
 use crate::choice::{last_choice, last_place, next_choice};
 use crate::cuts::rewind;
 use crate::guide::Guide;
-use crate::index::{Entry, Index};
-use crate::parts::Parts;
-use crate::words::sketch;
 use kv_base::NoMemory;
-use sat_engine::{Reason, Store, Trail, Watches};
+use sat_engine::{Reason, Store, Trail};
 use std::alloc::Global;
 
 /// Where a conflict is analyzed: its last literal, and the last choice before it.
@@ -27,6 +23,7 @@ pub struct Spot {
     pub floor: usize,
 }
 
+/// The first place that is after the last one and not before `start`.
 fn from_last(last: Option<usize>, start: usize) -> usize
     requires { IfSome last (λ t. t + 1 < 18446744073709551616) }
     ensures { MatchOption last (result ≡ start) (λ t. (start ≤ result) × (t < result) × ((f : ℕ) → t < f → start ≤ f → result ≤ f)) }
@@ -79,68 +76,6 @@ pub fn find_spot(
             },
         },
     }
-}
-
-/// The place of the literal that stood least often in clauses so far.
-fn least_common(index: &Index, clause: &[u32]) -> usize
-    requires some { 0 < length clause.now }
-    ensures { result < length clause.now }
-{
-    let mut best = 0;
-    let mut least = u64::MAX;
-    for (i, l) in clause.iter().enumerate() {
-        let count = index.count_of(*l);
-        if count < least {
-            best = i;
-            least = count;
-        }
-    }
-    best
-}
-
-/// Stores a clause and lists it, and gives its number.
-fn list_clause(store: &mut Store, index: &mut Index, clause: &[u32]) -> Result<u32, NoMemory>
-    requires some { 0 < length clause.now }
-    requires range { InRange clause.now (length index.old) }
-    requires indexed { IsIndexed store.old index.old }
-    ensures { IfOk result (λ n. (n ≡ length store.old) × (store.new ≡ store.old ++ clause.now ∷ []) × IsIndexed store.new index.new × (length index.new ≡ length index.old) × (length store.new < 4294967296)) }
-{
-    let Ok(number) = u32::try_from(store.len()) else {
-        return Err(NoMemory);
-    };
-    if number == u32::MAX {
-        return Err(NoMemory);
-    }
-    index.count(clause);
-    let under = least_common(index, clause);
-    let entry = Entry {
-        number,
-        sketch: sketch(clause),
-    };
-    index.put(clause[under] as usize, entry)?;
-    store.push(clause)?;
-    Ok(number)
-}
-
-/// Keeps a clause, which watches the given two of its literals, if any.
-pub fn record_clause(
-    store: &mut Store,
-    watches: &mut Watches,
-    index: &mut Index,
-    clause: &[u32],
-    watched: Option<(u32, u32)>,
-) -> Result<u32, NoMemory>
-    requires some { 0 < length clause.now }
-    requires range { InRange clause.now (length index.old) }
-    requires indexed { IsIndexed store.old index.old }
-    ensures { IfOk result (λ n. (n ≡ length store.old) × (store.new ≡ store.old ++ clause.now ∷ []) × IsIndexed store.new index.new × (length index.new ≡ length index.old) × (length store.new < 4294967296)) }
-{
-    let number = list_clause(store, index, clause)?;
-    match watched {
-        Some((one, two)) => watches.add(store, number, one, two)?,
-        None => {}
-    }
-    Ok(number)
 }
 
 /// Learns a clause from a false one, and unsets what was set after it would have had effect.

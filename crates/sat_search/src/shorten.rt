@@ -1,6 +1,6 @@
 ghost use Rattle.std.specs.Prelude.{ℕ, ◌≡◌, ◌*◌, ◌/◌, ◌<◌, ◌≤◌, Bool, true, length, IfOk, OnOk};
 ghost use Rattle.std.specs.List.{Contains};
-ghost use Rattle.kv_clause.specs.Propagation.{clause_at};
+ghost use Rattle.sat_clause.specs.Propagation.{clause_at};
 ghost use Rattle.sat_engine.specs.Look.{InRange};
 ghost use Rattle.sat_engine.specs.Trail.{IsSet};
 ghost use Rattle.sat_search.specs.Mark.{IsMarkedAt};

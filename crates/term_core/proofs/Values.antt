@@ -5,8 +5,8 @@ use Rattle.std.proofs.lemmas.Bool.{cases_lt}
 use Rattle.std.proofs.lemmas.Grind.{common_steps}
 use Rattle.std.specs.Ordering.{int_eq}
 use Rattle.std.specs.Prelude.{bit_and, bit_or, bit_xor}
-use Rattle.kv_shape.specs.Shape.{bits_at}
-use Rattle.kv_shape.proofs.Shapes.{range-wrap_at}
+use Rattle.kv_num.specs.Shape.{bits_at}
+use Rattle.kv_num.proofs.Shapes.{range-wrap_at}
 use Rattle.term_core.specs.declared.term.Shape.{Shape}
 use Rattle.term_core.specs.declared.term.Term.{Term}
 use Rattle.term_core.specs.declared.term.TermKind.{TermKind}

@@ -2,7 +2,7 @@
 use Rattle.std.specs.Prelude.{◌^◌, ◌≤◌, Bool, false, ◌&&◌, ℤ, pos, ◌+ℤ◌, int_lt, int_le}
 use Rattle.kv_num.specs.declared.types.IntType.{IntType}
 use Rattle.kv_num.specs.IntType.{width_of, signed_of}
-use Rattle.kv_shape.specs.Shape.{InShape, below_at, wrap_at}
+use Rattle.kv_num.specs.Shape.{InShape, below_at, wrap_at}
 use Rattle.term_core.specs.declared.term.Shape.{Shape}
 
 -- from 1 to 64 bits

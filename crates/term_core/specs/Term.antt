@@ -2,7 +2,7 @@
 -- below the width, the value is 0.
 use Rattle.std.specs.Prelude.{ℕ, Bool, true, false, not, ◌&&◌, nat_lt, ℤ, pos, ◌+ℤ◌, ◌-ℤ◌, ◌*ℤ◌, ◌≡◌, int_lt, if◌then◌else◌}
 use Rattle.std.specs.Ordering.{int_eq}
-use Rattle.kv_shape.specs.Shape.{bits_at, and_at, or_at, xor_at, not_at}
+use Rattle.kv_num.specs.Shape.{bits_at, and_at, or_at, xor_at, not_at}
 use Rattle.kv_num.specs.Quotient.{quotient_of, remainder_of}
 use Rattle.kv_num.specs.Shift.{left_of, right_of}
 use Rattle.term_core.specs.declared.term.Shape.{Shape}

@@ -4,8 +4,6 @@
 
 mod table;
 mod term;
-#[cfg(test)]
-mod tests;
 
 pub use kv_base::NoMemory;
 pub use table::Terms;

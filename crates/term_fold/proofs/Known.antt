@@ -3,9 +3,9 @@ use Rattle.std.proofs.Common.{arith, ◌≡◌, ℕ, ◌-◌, ◌^◌, ◌<◌, 
 use Rattle.std.proofs.lemmas.Int.{ints}
 use Rattle.std.specs.Ordering.{int_eq}
 use Rattle.std.proofs.Math.Nat.{mod-eq_of_lt}
-use Rattle.kv_shape.specs.Shape.{bits_at, not_at}
+use Rattle.kv_num.specs.Shape.{bits_at, not_at}
 use Rattle.kv_num.proofs.Patterns.{low_bits-congruent}
-use Rattle.kv_shape.proofs.Shapes.{range-wrap_at, wrap_at_congruent, wrap_at-congruent, wrap_at-in_shape, wrap_at-wrap_at}
+use Rattle.kv_num.proofs.Shapes.{range-wrap_at, wrap_at_congruent, wrap_at-congruent, wrap_at-in_shape, wrap_at-wrap_at}
 use Rattle.term_core.proofs.Values.{range-unary}
 use Rattle.term_fold.proofs.Simplifications.{from_bits, bits_small}
 use Rattle.term_core.specs.declared.term.Shape.{Shape}

@@ -1,5 +1,4 @@
 mod Constants
-mod Fitting
 mod Known
 mod Renamed
 mod Simplifications

@@ -7,9 +7,9 @@ use Rattle.std.specs.Int.Bits.{and_self, or_self, xor_self, and_zero_l, and_zero
 use Rattle.std.proofs.Math.Nat.{mod-eq_of_lt, pow-suc}
 use Rattle.std.specs.Prelude.{bit_and, bit_or, bit_xor}
 use lib.IntN.{+ℤ_idl, +ℤ_idr, *ℤ-zero, zero-*ℤ, *ℤ_comm}
-use Rattle.kv_shape.specs.Shape.{InShape, below_at, bits_at}
+use Rattle.kv_num.specs.Shape.{InShape, below_at, bits_at}
 use Rattle.kv_num.specs.Shift.{left_of, right_of}
-use Rattle.kv_shape.proofs.Shapes.{wrap_at-in_shape, wrap_at-congruent}
+use Rattle.kv_num.proofs.Shapes.{wrap_at-in_shape, wrap_at-congruent}
 use Rattle.kv_num.proofs.Congruence.{rem_congruent, rem_most, pos-rem}
 use Rattle.term_core.specs.declared.term.Shape.{Shape}
 use Rattle.term_core.specs.declared.term.BinaryOp.TheVariants.{Add, Sub, Mul, Div, Rem, ShiftLeft, ShiftRight, BitAnd, BitOr, BitXor}

@@ -1,6 +1,6 @@
 ghost use Rattle.std.specs.Prelude.{◌≡◌, ◌<◌, ◌≤◌, ◌+◌, ℕ, ℤ, length, IfOk};
 ghost use Rattle.term_core.specs.Shape.{IsShape};
-ghost use Rattle.term_core.specs.Table.{shape_at, kind_value, Agrees, IsTermAt, Grows};
+ghost use Rattle.term_core.specs.Table.{shape_at, kind_value, term_value, Agrees, IsTermAt, Grows};
 ghost use Rattle.term_fold.specs.Folded.{Stands, simpler_value, Replaces, IsSame, AllSame, renamed_id, renamed_kind, NamesBelow};
 
 use crate::NoMemory;
@@ -36,6 +36,21 @@ fn simplified(terms: &mut Terms, term: Term) -> Result<TermId, NoMemory>
 {
     let simpler = simplify(terms, term.shape, term.kind);
     placed(terms, term.shape, simpler)
+}
+
+/// Adds a term over folded ones, or what is simpler: a term of the same shape and with the same value in every
+/// environment. Only the term and its operands are looked at. Earlier terms keep their numbers, also without memory for
+/// the answer.
+#[tactic(auto, using(crate::proofs::Renamed::replaced_by))]
+pub fn add_folded(terms: &mut Terms, term: Term) -> Result<TermId, NoMemory>
+    requires { IsTermAt terms.old (length terms.old) term }
+    ensures within { IfOk result (λ id. id.0 < length terms.new) }
+    ensures shape { IfOk result (λ id. shape_at terms.new id.0 ≡ term.shape) }
+    ensures value { IfOk result (λ id. (E V : ℕ → ℤ) → Agrees E V terms.new → V id.0 ≡ term_value E V terms.old term) }
+    ensures kept { Grows terms.old terms.new }
+{
+    let id = simplified(terms, term)?;
+    Ok(id)
 }
 
 /// What stands for an operand.

@@ -7,8 +7,6 @@ mod operands;
 mod picks;
 mod rules;
 mod simpler;
-#[cfg(test)]
-mod tests;
 
-pub use folding::fold;
+pub use folding::{add_folded, fold};
 pub use kv_base::NoMemory;

@@ -1,25 +1,24 @@
 ghost use Rattle.std.specs.Prelude.{◌≡◌, IfSome};
-ghost use Rattle.kv_num.specs.IntType.{InRange};
-ghost use Rattle.term_core.specs.Shape.{HasShape, shape_of};
+ghost use Rattle.term_core.specs.Shape.{IsShape, HasShape};
 ghost use Rattle.term_core.specs.Term.{truth, binary_value, fits_value, OperandsFit};
 ghost use Rattle.term_fold.specs.Picks.{IsFor, IsPickOf, IsFitsPick};
 
-use crate::computed::{arithmetic, fitting, integer_type, shifted};
+use crate::computed::{arithmetic, fitting, shifted};
 use crate::operands::{Operands, Pick};
 use crate::rules::ruled;
-use kv_num::IntType;
 use term_core::{BinaryOp, Shape};
 
 /// The result of an operation on two constants, if C defines it.
-fn constant(t: IntType, other: Shape, op: BinaryOp, a: i128, b: i128) -> Option<i128>
-    requires left { InRange t a }
+fn constant(shape: Shape, other: Shape, op: BinaryOp, a: i128, b: i128) -> Option<i128>
+    requires valid { IsShape shape }
+    requires left { HasShape shape a }
     requires right { HasShape other b }
-    requires shapes { OperandsFit op (shape_of t) other }
-    ensures { IfSome result (λ n. n ≡ binary_value (shape_of t) other op a b) }
+    requires shapes { OperandsFit op shape other }
+    ensures { IfSome result (λ n. n ≡ binary_value shape other op a b) }
 {
     match op {
-        BinaryOp::ShiftLeft | BinaryOp::ShiftRight => shifted(t, other, op, a, b),
-        _ => arithmetic(t, op, a, b),
+        BinaryOp::ShiftLeft | BinaryOp::ShiftRight => shifted(shape, other, op, a, b),
+        _ => arithmetic(shape, op, a, b),
     }
 }
 
@@ -34,10 +33,7 @@ fn computed(op: BinaryOp, o: Operands) -> Pick
     let Some(b) = o.right else {
         return Pick::Neither;
     };
-    let Some(t) = integer_type(o.shape) else {
-        return Pick::Neither;
-    };
-    match constant(t, o.other, op, a, b) {
+    match constant(o.shape, o.other, op, a, b) {
         Some(number) => Pick::Number(number),
         None => Pick::Neither,
     }
@@ -75,10 +71,7 @@ pub(crate) fn fits_picked(op: BinaryOp, o: Operands) -> Pick
     let Some(b) = o.right else {
         return Pick::Neither;
     };
-    let Some(t) = integer_type(o.shape) else {
-        return Pick::Neither;
-    };
-    match fitting(t, o.other, op, a, b) {
+    match fitting(o.shape, o.other, op, a, b) {
         Some(fits) => Pick::Number(fits as i128),
         None => Pick::Neither,
     }

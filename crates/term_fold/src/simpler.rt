@@ -1,9 +1,10 @@
 ghost use Rattle.std.specs.Prelude.{◌≡◌, ◌<◌, length, IfSome};
 ghost use Rattle.term_core.specs.declared.term.TermKind.TheVariants as Kind;
+ghost use Rattle.term_core.specs.Shape.{IsShape};
 ghost use Rattle.term_core.specs.Table.{IsKindAt};
 ghost use Rattle.term_fold.specs.Folded.{IsConstant, AreOperands, IsSimpler, chosen_of};
 
-use crate::computed::{integer_type, unary as computed_unary};
+use crate::computed::unary as computed_unary;
 use crate::operands::{Operands, Pick};
 use crate::picks::{fits_picked, picked};
 use term_core::{BinaryOp, Shape, TermId, TermKind, Terms, UnaryOp};
@@ -67,9 +68,7 @@ fn unary(terms: &Terms, shape: Shape, op: UnaryOp, of: TermId) -> Simpler
 {
     terms.values_are_fixed();
     if let Some(number) = constant_of(terms, of) {
-        if let Some(t) = integer_type(shape) {
-            return Simpler::Computed(computed_unary(t, op, number));
-        }
+        return Simpler::Computed(computed_unary(shape, op, number));
     }
     if let TermKind::Unary {
         op: inner,
@@ -125,7 +124,8 @@ fn select(terms: &Terms, shape: Shape, test: TermId, yes: TermId, no: TermId) ->
 /// conversion where there are two and the first does not narrow more than the second.
 #[tactic(auto, using(crate::proofs::Known::conversions))]
 fn convert(terms: &Terms, shape: Shape, of: TermId) -> Simpler
-    requires { IsKindAt terms.now (length terms.now) shape (Kind.Convert of) }
+    requires valid { IsShape shape }
+    requires kind { IsKindAt terms.now (length terms.now) shape (Kind.Convert of) }
     ensures { IsSimpler terms.now shape (Kind.Convert of) result }
 {
     terms.values_are_fixed();
@@ -134,9 +134,7 @@ fn convert(terms: &Terms, shape: Shape, of: TermId) -> Simpler
         return Simpler::Same(of);
     }
     if let Some(number) = constant_of(terms, of) {
-        if let Some(t) = integer_type(shape) {
-            return Simpler::Computed(kv_num::wrap(t, number));
-        }
+        return Simpler::Computed(kv_num::wrap_at(shape.width, shape.signed, number));
     }
     if let TermKind::Convert { of: inside } = term.kind {
         if shape.width <= term.shape.width {
@@ -162,7 +160,8 @@ fn converted(terms: &Terms, shape: Shape, of: TermId) -> Simpler
 /// What takes the place of a term.
 #[tactic(auto, using(crate::proofs::Known::other_stays))]
 pub(crate) fn simplify(terms: &Terms, shape: Shape, kind: TermKind) -> Simpler
-    requires { IsKindAt terms.now (length terms.now) shape kind }
+    requires valid { IsShape shape }
+    requires kind { IsKindAt terms.now (length terms.now) shape kind }
     ensures { IsSimpler terms.now shape kind result }
 {
     match kind {

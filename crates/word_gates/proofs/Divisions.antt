@@ -6,10 +6,10 @@ use Rattle.std.proofs.lemmas.Nat.{div-mul-add}
 use Rattle.std.proofs.lemmas.Bool.{cases_lt, lt-ltb, le-ltb}
 use Rattle.kv_num.specs.Bits.{differ}
 use Rattle.kv_num.specs.Quotient.{quotient_of, remainder_of}
-use Rattle.kv_shape.specs.Shape.{below_at, InShape}
-use Rattle.kv_shape.proofs.Shapes.{wrap_at-in_shape, range-wrap_at}
-use Rattle.kv_clause.specs.Literals.{is_true, complement_of}
-use Rattle.kv_clause.proofs.Truths.{is_true-complement}
+use Rattle.kv_num.specs.Shape.{below_at, InShape}
+use Rattle.kv_num.proofs.Shapes.{wrap_at-in_shape, range-wrap_at}
+use Rattle.sat_clause.specs.Literals.{is_true, complement_of}
+use Rattle.sat_clause.proofs.Truths.{is_true-complement}
 use Rattle.word_sums.specs.Words.{bit, number, signed_number, word_value}
 use Rattle.word_sums.proofs.Numbers.{below_less, number-bound}
 use Rattle.word_gates.proofs.Exact.{neg_as, signed_product, wrapped_absolute}

@@ -4,11 +4,11 @@ use Rattle.std.proofs.lemmas.Int.{ints}
 use Rattle.std.proofs.lemmas.Nat.{pow_pos}
 use Rattle.std.proofs.lemmas.Bool.{ne_eqb}
 use Rattle.kv_num.specs.Bits.{differ}
-use Rattle.kv_shape.specs.Shape.{InShape, wrap_at}
+use Rattle.kv_num.specs.Shape.{InShape, wrap_at}
 use Rattle.kv_num.proofs.Ring.{times-neg}
-use Rattle.kv_shape.proofs.Shapes.{wrap_at-congruent}
-use Rattle.kv_clause.specs.Literals.{is_true, complement_of}
-use Rattle.kv_clause.proofs.Truths.{is_true-complement}
+use Rattle.kv_num.proofs.Shapes.{wrap_at-congruent}
+use Rattle.sat_clause.specs.Literals.{is_true, complement_of}
+use Rattle.sat_clause.proofs.Truths.{is_true-complement}
 use Rattle.word_sums.specs.Words.{bit, number, signed_number, word_value}
 use Rattle.word_sums.proofs.Numbers.{number-bound, number_top, full, half, low_bound}
 use Rattle.word_sums.proofs.Totals.{as_shape}

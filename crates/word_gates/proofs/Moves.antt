@@ -8,10 +8,10 @@ use Rattle.std.proofs.lemmas.List.{length-replicate}
 use Rattle.std.proofs.lemmas.Bool.{cases_lt, lt-ltb, le-ltb}
 use Rattle.kv_num.specs.Shift.{left_of, right_of}
 use Rattle.kv_num.proofs.Powers.{right_of-right_of}
-use Rattle.kv_shape.specs.Shape.{below_at, InShape, wrap_at}
-use Rattle.kv_shape.proofs.Shapes.{wrap_at-congruent, wrap_at-mul_left, wrap_at_unique, range-wrap_at}
-use Rattle.kv_clause.specs.Literals.{is_true, complement_of}
-use Rattle.kv_clause.proofs.Truths.{is_true-complement}
+use Rattle.kv_num.specs.Shape.{below_at, InShape, wrap_at}
+use Rattle.kv_num.proofs.Shapes.{wrap_at-congruent, wrap_at-mul_left, wrap_at_unique, range-wrap_at}
+use Rattle.sat_clause.specs.Literals.{is_true, complement_of}
+use Rattle.sat_clause.proofs.Truths.{is_true-complement}
 use Rattle.word_sums.specs.Words.{bit, number, word_value, continued_value}
 use Rattle.word_sums.proofs.Numbers.{below_less, number-bound, pow_next, word_value-unsigned, word_value-signed, number_top, half, full, low_bound}
 use Rattle.word_sums.proofs.Pieces.{number-append, number-split, number-copies, nonzero, top_same}
@@ -301,7 +301,7 @@ right_in_shape w signed (negsuc n) d h is =
     let r = nearer_under (negsuc n) (negsuc (n / 2 ^ d)) (below_at w signed) (2 ^ w) (below_less w signed h) (omega (arith, ints)) (omega (arith, ints, shr_le n d)) (is.least, is.most) in
     record { least = r.0; most = r.1 }
 
-continued_multiple : (n s : ℕ) (f : Bool) → pos n ≡ (pos n -ℤ pos (s * bit f)) +ℤ (pos (bit f) *ℤ pos s)
+pub continued_multiple : (n s : ℕ) (f : Bool) → pos n ≡ (pos n -ℤ pos (s * bit f)) +ℤ (pos (bit f) *ℤ pos s)
 continued_multiple n s true = omega (arith, ints)
 continued_multiple n s false = omega (arith, ints)
 

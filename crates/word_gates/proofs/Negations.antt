@@ -3,9 +3,9 @@ use Rattle.std.proofs.Common.{ℕ, ◌≡◌, ◌<◌, ◌+◌, ◌*◌, ◌^◌
 use Rattle.std.proofs.lemmas.Int.{ints}
 use Rattle.std.proofs.lemmas.Bool.{ne_eqb}
 use Rattle.kv_num.specs.Bits.{differ}
-use Rattle.kv_shape.specs.Shape.{below_at}
-use Rattle.kv_shape.proofs.Shapes.{range-wrap_at}
-use Rattle.kv_clause.specs.Literals.{is_true}
+use Rattle.kv_num.specs.Shape.{below_at}
+use Rattle.kv_num.proofs.Shapes.{range-wrap_at}
+use Rattle.sat_clause.specs.Literals.{is_true}
 use Rattle.word_sums.specs.Words.{bit, number, signed_number, word_value}
 use Rattle.word_sums.proofs.Numbers.{below_less, number-more, number-take, number_top, whole, full, pow_next, word_value-unsigned, word_value-signed}
 use Rattle.word_sums.proofs.Pieces.{any_next}

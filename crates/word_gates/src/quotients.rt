@@ -1,14 +1,14 @@
 ghost use Rattle.std.specs.Prelude.{◌≡◌, ◌≢◌, ◌<◌, ◌≤◌, ◌+◌, ◌*◌, ◌∷◌, ◌↔◌, nat_lt, not, IsTrue, ℕ, Bool, pos, length, IfOk};
 ghost use Rattle.kv_num.specs.Quotient.{quotient_of, remainder_of};
-ghost use Rattle.kv_shape.specs.Shape.{InShape, wrap_at};
-ghost use Rattle.kv_clause.specs.Literals.{is_true};
+ghost use Rattle.kv_num.specs.Shape.{InShape, wrap_at};
+ghost use Rattle.sat_clause.specs.Literals.{is_true};
 ghost use Rattle.gate_core.specs.Table.{Agrees, IsLitOf, Grows};
 ghost use Rattle.word_sums.specs.Words.{bit, number, word_value, IsWordOf};
 
 use crate::signs::{absolute_value, negated_where, with_sign};
 use gate_core::Gates;
 use kv_base::{NoMemory, Sequence};
-use kv_clause::Lit;
+use sat_clause::Lit;
 use std::alloc::Global;
 use word_sums::{Word, WordNum, add_carried, any, complements, select};
 

@@ -1,14 +1,14 @@
 ghost use Rattle.std.specs.Prelude.{◌≡◌, ◌<◌, ◌≤◌, ◌+◌, ◌-◌, ◌*◌, ◌%◌, ◌^◌, ◌&&◌, ◌||◌, ◌++◌, nat_lt, not, ◌↔◌, IsTrue, ℕ, Bool, pos, ◌-ℤ◌, ◌≤ℤ◌, length, replicate, if◌then◌else◌, IfOk};
 ghost use Rattle.kv_num.specs.Shift.{left_of, right_of};
-ghost use Rattle.kv_shape.specs.Shape.{InShape, wrap_at};
-ghost use Rattle.kv_clause.specs.Literals.{is_true};
+ghost use Rattle.kv_num.specs.Shape.{InShape, wrap_at};
+ghost use Rattle.sat_clause.specs.Literals.{is_true};
 ghost use Rattle.gate_core.specs.Table.{Agrees, IsLitOf, Grows};
 ghost use Rattle.word_sums.specs.Words.{number, word_value, continued_value, IsWordOf};
 
 use crate::signs::sign;
 use gate_core::Gates;
 use kv_base::{NoMemory, Sequence};
-use kv_clause::Lit;
+use sat_clause::Lit;
 use std::alloc::Global;
 use word_sums::{Word, WordNum, above, any, or, select};
 
@@ -218,7 +218,7 @@ fn lower_where(
 }
 
 /// A word below some copies of a literal.
-fn below(alloc: Global, word: &[Lit], fill: Lit, copies: usize) -> Result<Word, NoMemory>
+pub(crate) fn below(alloc: Global, word: &[Lit], fill: Lit, copies: usize) -> Result<Word, NoMemory>
     ensures { IfOk result (λ w. w ≡ word.now ++ replicate copies fill) }
 {
     let mut whole = Sequence::from_slice(alloc, word)?;

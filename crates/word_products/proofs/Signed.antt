@@ -7,10 +7,10 @@ use Rattle.std.proofs.lemmas.Nat.{pow_pos}
 use Rattle.std.proofs.lemmas.Bool.{cases_eq, eq-eqb, ne_eqb}
 use Rattle.kv_num.specs.Bits.{differ}
 use Rattle.kv_num.proofs.Ring.{sums, times-add, times-neg, times-times}
-use Rattle.kv_shape.specs.Shape.{below_at, InShape, wrap_at}
-use Rattle.kv_shape.proofs.Shapes.{wrap_at-in_shape, wrap_at-congruent}
-use Rattle.kv_clause.specs.Literals.{is_true, complement_of}
-use Rattle.kv_clause.proofs.Truths.{is_true-complement}
+use Rattle.kv_num.specs.Shape.{below_at, InShape, wrap_at}
+use Rattle.kv_num.proofs.Shapes.{wrap_at-in_shape, wrap_at-congruent}
+use Rattle.sat_clause.specs.Literals.{is_true, complement_of}
+use Rattle.sat_clause.proofs.Truths.{is_true-complement}
 use Rattle.word_sums.specs.Words.{bit, number, word_value}
 use Rattle.word_sums.proofs.Numbers.{below_less, number-bound, pow_next, word_value-unsigned, word_value-signed, number_top, low_bound}
 use Rattle.word_sums.proofs.Totals.{as_shape}

@@ -1,13 +1,13 @@
 ghost use Rattle.std.specs.Prelude.{◌≡◌, ◌<◌, ◌+◌, ◌*◌, ◌^◌, ◌↔◌, IsTrue, ℕ, Bool, ◌*ℤ◌, [], ◌∷◌, ◌++◌, length, drop, IfOk};
-ghost use Rattle.kv_shape.specs.Shape.{InShape, wrap_at};
-ghost use Rattle.kv_clause.specs.Literals.{is_true};
+ghost use Rattle.kv_num.specs.Shape.{InShape, wrap_at};
+ghost use Rattle.sat_clause.specs.Literals.{is_true};
 ghost use Rattle.gate_core.specs.Table.{Agrees, IsLitOf, Grows};
 ghost use Rattle.word_sums.specs.Words.{bit, number, word_value, IsWordOf};
 
 use crate::signed_products::signed_mul;
 use gate_core::Gates;
 use kv_base::{NoMemory, Sequence};
-use kv_clause::Lit;
+use sat_clause::Lit;
 use std::alloc::Global;
 use word_sums::{Word, WordNum, add_carried, any};
 

@@ -1,13 +1,13 @@
 ghost use Rattle.std.specs.Prelude.{◌≡◌, ◌<◌, ◌^◌, ◌↔◌, IsTrue, ℕ, Bool, true, pos, ◌+ℤ◌, ◌*ℤ◌, length, IfOk};
-ghost use Rattle.kv_shape.specs.Shape.{InShape, wrap_at};
-ghost use Rattle.kv_clause.specs.Literals.{is_true};
+ghost use Rattle.kv_num.specs.Shape.{InShape, wrap_at};
+ghost use Rattle.sat_clause.specs.Literals.{is_true};
 ghost use Rattle.gate_core.specs.Table.{Agrees, IsLitOf, Grows};
 ghost use Rattle.word_sums.specs.Words.{bit, number, word_value, IsWordOf};
 
 use crate::products::{Product, Row, masked, upper};
 use gate_core::Gates;
 use kv_base::{NoMemory, Sequence};
-use kv_clause::Lit;
+use sat_clause::Lit;
 use std::alloc::Global;
 use word_sums::{WordNum, above, add_bits, add_carried, complements, equal};
 

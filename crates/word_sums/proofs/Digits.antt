@@ -1,8 +1,8 @@
 -- Sums and choices of single bits.
 use Rattle.std.proofs.Common.{ℕ, ◌≡◌, ◌+◌, ◌*◌, Bool, true, false, not, ◌&&◌, ◌||◌, if◌then◌else◌, refl, ap, ◌∙◌}
 use Rattle.kv_num.specs.Bits.{differ}
-use Rattle.kv_clause.specs.Literals.{complement_of, is_true}
-use Rattle.kv_clause.proofs.Truths.{is_true-complement}
+use Rattle.sat_clause.specs.Literals.{complement_of, is_true}
+use Rattle.sat_clause.proofs.Truths.{is_true-complement}
 use Rattle.word_sums.specs.Words.{bit}
 
 not_neither : (a b : Bool) → not (not a && not b) ≡ (a || b)

@@ -2,8 +2,8 @@
 use Rattle.std.proofs.Common.{ℕ, zero, suc, ◌≡◌, ◌<◌, ◌∷◌, ◌++◌, [], List, Bool, true, false, not, if◌then◌else◌, length, take, drop, get_or, sym, ap, subst, ◌∙◌, arith}
 use Rattle.std.proofs.lemmas.List.{take-take}
 use Rattle.std.proofs.lemmas.List.Elements.{All-push, All-tail}
-use Rattle.kv_clause.specs.Literals.{variable_of, complement_of, is_true, AreBelow}
-use Rattle.kv_clause.proofs.Truths.{complement_variable, is_true-complement}
+use Rattle.sat_clause.specs.Literals.{variable_of, complement_of, is_true, AreBelow}
+use Rattle.sat_clause.proofs.Truths.{complement_variable, is_true-complement}
 use Rattle.gate_core.specs.declared.gate.Gate.{Gate}
 use Rattle.gate_core.specs.Table.{IsLitOf, Grows}
 use Rattle.word_sums.specs.Words.{IsWordOf}

@@ -4,3 +4,4 @@ pub mod Numbers
 pub mod Pieces
 pub mod Orders
 pub mod Totals
+pub mod Values

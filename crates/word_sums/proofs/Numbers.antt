@@ -5,10 +5,10 @@ use Rattle.std.proofs.lemmas.Nat.{pow_pos}
 use Rattle.std.proofs.lemmas.List.{take_more}
 use Rattle.std.proofs.Math.Seq.{take-length}
 use Rattle.std.proofs.lemmas.Grind.{common_steps}
-use Rattle.kv_shape.specs.Shape.{below_at, InShape}
-use Rattle.kv_shape.proofs.Shapes.{wrap_at_unique}
-use Rattle.kv_clause.specs.Literals.{is_true, complement_of}
-use Rattle.kv_clause.proofs.Truths.{is_true-complement}
+use Rattle.kv_num.specs.Shape.{below_at, InShape}
+use Rattle.kv_num.proofs.Shapes.{wrap_at_unique}
+use Rattle.sat_clause.specs.Literals.{is_true, complement_of}
+use Rattle.sat_clause.proofs.Truths.{is_true-complement}
 use Rattle.word_sums.specs.Words.{bit, number, word_value}
 
 pub bit-le : (b : Bool) → bit b ≤ 1

@@ -5,8 +5,8 @@ use Rattle.std.proofs.lemmas.Bool.{cases_eq, eq-eqb, ne_eqb}
 use Rattle.std.proofs.lemmas.Bool.Decides.{nat_tests}
 use Rattle.std.proofs.lemmas.Grind.{common_steps}
 use Rattle.kv_num.specs.Bits.{differ}
-use Rattle.kv_clause.specs.Literals.{is_true, complement_of}
-use Rattle.kv_clause.proofs.Truths.{is_true-complement}
+use Rattle.sat_clause.specs.Literals.{is_true, complement_of}
+use Rattle.sat_clause.proofs.Truths.{is_true-complement}
 use Rattle.word_sums.specs.Words.{bit, number}
 use Rattle.word_sums.proofs.Numbers.{number-more, number-take, number-take_bound}
 

@@ -3,11 +3,11 @@ use Rattle.std.proofs.Common.{ℕ, ◌≡◌, ◌<◌, ◌≤◌, ◌+◌, ◌-�
 use Rattle.std.proofs.lemmas.Int.{ints}
 use Rattle.std.proofs.lemmas.Bool.{cases_lt}
 use Rattle.kv_num.specs.Bits.{differ}
-use Rattle.kv_shape.specs.Shape.{below_at, InShape, wrap_at}
+use Rattle.kv_num.specs.Shape.{below_at, InShape, wrap_at}
 use Rattle.kv_num.proofs.Ring.{sum_multiple, times-add, times-neg}
-use Rattle.kv_shape.proofs.Shapes.{wrap_at_congruent, wrap_at-congruent, wrap_at_unique, range-wrap_at}
-use Rattle.kv_clause.specs.Literals.{is_true, complement_of}
-use Rattle.kv_clause.proofs.Truths.{is_true-complement}
+use Rattle.kv_num.proofs.Shapes.{wrap_at_congruent, wrap_at-congruent, wrap_at_unique, range-wrap_at}
+use Rattle.sat_clause.specs.Literals.{is_true, complement_of}
+use Rattle.sat_clause.proofs.Truths.{is_true-complement}
 use Rattle.word_sums.specs.Words.{bit, number, word_value}
 use Rattle.word_sums.proofs.Numbers.{number-more, number-take, number-bound, pow_next, word_value-unsigned, word_value-signed, number_top, half, full}
 

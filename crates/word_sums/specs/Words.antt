@@ -1,8 +1,8 @@
 -- Words of literals, lowest bit first, and their numbers. Sections are those of ISO/IEC 9899:2011.
 use Rattle.std.specs.Prelude.{ℕ, ◌+◌, ◌*◌, ◌^◌, Bool, true, false, List, [], ◌∷◌, length, ℤ, pos, ◌-ℤ◌}
 use Rattle.std.specs.List.{All}
-use Rattle.kv_shape.specs.Shape.{wrap_at}
-use Rattle.kv_clause.specs.Literals.{is_true}
+use Rattle.kv_num.specs.Shape.{wrap_at}
+use Rattle.sat_clause.specs.Literals.{is_true}
 use Rattle.gate_core.specs.declared.gate.Gate.{Gate}
 use Rattle.gate_core.specs.Table.{IsLitOf}
 

@@ -1,12 +1,12 @@
 ghost use Rattle.std.specs.Prelude.{◌≡◌, ◌+◌, ◌*◌, ◌||◌, ℕ, Bool, if◌then◌else◌, IfOk};
 ghost use Rattle.kv_num.specs.Bits.{differ};
-ghost use Rattle.kv_clause.specs.Literals.{is_true, complement_of};
+ghost use Rattle.sat_clause.specs.Literals.{is_true, complement_of};
 ghost use Rattle.gate_core.specs.Table.{Agrees, IsLitOf, Grows};
 ghost use Rattle.word_sums.specs.Words.{bit};
 
 use gate_core::Gates;
 use kv_base::NoMemory;
-use kv_clause::Lit;
+use sat_clause::Lit;
 
 /// The sum of three bits: its digit, and whether what it carries differs from the third bit.
 #[derive(Clone, Copy)]

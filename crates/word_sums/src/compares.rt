@@ -1,6 +1,7 @@
 ghost use Rattle.std.specs.Prelude.{◌≡◌, ◌<◌, ◌+◌, ◌*◌, ◌^◌, ◌==◌, nat_lt, ◌↔◌, IsTrue, ℕ, Bool, pos, ◌+ℤ◌, ◌<ℤ◌, length, if◌then◌else◌, IfOk};
-ghost use Rattle.kv_shape.specs.Shape.{below_at};
-ghost use Rattle.kv_clause.specs.Literals.{is_true, AreBelow};
+ghost use Rattle.std.specs.Ordering.{int_eq};
+ghost use Rattle.kv_num.specs.Shape.{below_at};
+ghost use Rattle.sat_clause.specs.Literals.{is_true, AreBelow};
 ghost use Rattle.gate_core.specs.Table.{Agrees, IsLitOf, Grows};
 ghost use Rattle.word_sums.specs.Words.{bit, number, word_value, IsWordOf};
 
@@ -8,11 +9,34 @@ use crate::Word;
 use crate::bits::{choose, flipped, lower_bit};
 use gate_core::Gates;
 use kv_base::{NoMemory, Sequence};
-use kv_clause::Lit;
+use sat_clause::Lit;
 use std::alloc::Global;
 
 /// The first word where the test is true, and else the second.
+#[tactic(auto, using(crate::proofs::Values::select_value))]
 pub fn select(
+    alloc: Global,
+    gates: &mut Gates,
+    test: Lit,
+    a: &Word,
+    b: &Word,
+) -> Result<Word, NoMemory>
+    requires test { IsLitOf gates.old test }
+    requires left { IsWordOf gates.old a.now }
+    requires right { IsWordOf gates.old b.now }
+    requires same { length b.now ≡ length a.now }
+    ensures len { IfOk result (λ w. length w ≡ length a.now) }
+    ensures word { IfOk result (λ w. IsWordOf gates.new w) }
+    ensures value { IfOk result (λ w. (A : ℕ → Bool) → Agrees A gates.new → number A w ≡ (if is_true A test then number A a.now else number A b.now)) }
+    ensures whole { IfOk result (λ w. (A : ℕ → Bool) (signed : Bool) → Agrees A gates.new → word_value A signed w ≡ (if is_true A test then word_value A signed a.now else word_value A signed b.now)) }
+    ensures grows { Grows gates.old gates.new }
+{
+    let word = chosen_word(alloc, gates, test, a, b)?;
+    Ok(word)
+}
+
+/// The digits of the first word where the test is true, and else of the second.
+fn chosen_word(
     alloc: Global,
     gates: &mut Gates,
     test: Lit,
@@ -39,7 +63,22 @@ pub fn select(
 }
 
 /// Whether two words have the same number.
+#[tactic(auto, using(crate::proofs::Values::equal_value))]
 pub fn equal(gates: &mut Gates, a: &Word, b: &Word) -> Result<Lit, NoMemory>
+    requires left { IsWordOf gates.old a.now }
+    requires right { IsWordOf gates.old b.now }
+    requires same { length b.now ≡ length a.now }
+    ensures within { IfOk result (IsLitOf gates.new) }
+    ensures value { IfOk result (λ l. (A : ℕ → Bool) → Agrees A gates.new → is_true A l ≡ (number A a.now == number A b.now)) }
+    ensures whole { IfOk result (λ l. (A : ℕ → Bool) (signed : Bool) → Agrees A gates.new → is_true A l ≡ int_eq (word_value A signed a.now) (word_value A signed b.now)) }
+    ensures grows { Grows gates.old gates.new }
+{
+    let same = equal_digits(gates, a, b)?;
+    Ok(same)
+}
+
+/// Whether two words have the same digits.
+fn equal_digits(gates: &mut Gates, a: &Word, b: &Word) -> Result<Lit, NoMemory>
     requires left { IsWordOf gates.old a.now }
     requires right { IsWordOf gates.old b.now }
     requires same { length b.now ≡ length a.now }

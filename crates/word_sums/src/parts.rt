@@ -1,5 +1,5 @@
 ghost use Rattle.std.specs.Prelude.{◌≡◌, ◌==◌, ◌++◌, not, ℕ, Bool, replicate, IfOk};
-ghost use Rattle.kv_clause.specs.Literals.{is_true};
+ghost use Rattle.sat_clause.specs.Literals.{is_true};
 ghost use Rattle.gate_core.specs.Table.{Agrees, IsLitOf, Grows};
 ghost use Rattle.word_sums.specs.Words.{number, IsWordOf};
 
@@ -7,7 +7,7 @@ use crate::Word;
 use crate::bits::or;
 use gate_core::Gates;
 use kv_base::{NoMemory, Sequence};
-use kv_clause::Lit;
+use sat_clause::Lit;
 use std::alloc::Global;
 
 /// Whether a literal of the word is true. The gates of a word's upper part are those of the whole.

@@ -1,6 +1,6 @@
 ghost use Rattle.std.specs.Prelude.{◌≡◌, ◌<◌, ◌≤◌, ◌+◌, ◌*◌, ◌^◌, ◌↔◌, IsTrue, ℕ, Bool, pos, ◌+ℤ◌, ◌-ℤ◌, length, IfOk};
-ghost use Rattle.kv_shape.specs.Shape.{InShape, wrap_at};
-ghost use Rattle.kv_clause.specs.Literals.{is_true, AreBelow};
+ghost use Rattle.kv_num.specs.Shape.{InShape, wrap_at};
+ghost use Rattle.sat_clause.specs.Literals.{is_true, AreBelow};
 ghost use Rattle.gate_core.specs.Table.{Agrees, IsLitOf, Grows};
 ghost use Rattle.word_sums.specs.Words.{bit, number, word_value, IsWordOf};
 
@@ -8,7 +8,7 @@ use crate::bits::{add_bits, flipped, overflows};
 use crate::{Word, WordNum};
 use gate_core::Gates;
 use kv_base::{NoMemory, Sequence};
-use kv_clause::Lit;
+use sat_clause::Lit;
 use std::alloc::Global;
 
 /// The digits of a sum, and what is carried out of them.

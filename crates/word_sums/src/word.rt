@@ -1,5 +1,5 @@
 use kv_base::Sequence;
-use kv_clause::Lit;
+use sat_clause::Lit;
 
 /// Literals, lowest bit first.
 pub type Word = Sequence<Lit>;

@@ -4,12 +4,14 @@ ghost use Rattle.word_gates.specs.Words.{IsWordOf};
 
 use gate_core::Gates;
 use kv_base::{NoMemory, Sequence};
-use kv_clause::Lit;
+use sat_clause::Lit;
 use std::alloc::Global;
 use word_gates::{
-    Word, WordNum, add, div_rem, equal, less, mul, select, shift_left, shift_right, sub,
+    Word, WordNum, add, and, div_rem, equal, less, mul, negate, not, or, select, shift_left,
+    shift_right, sub, xor,
 };
 
+/// An operation on words.
 #[derive(Clone, Copy, Debug, PartialEq, Eq)]
 pub enum Operation {
     Add,
@@ -22,6 +24,17 @@ pub enum Operation {
     Less,
     Equal,
     Select,
+    Bits(BitOperation),
+}
+
+/// An operation whose result is the same with and without a sign. `Not` and `Negate` take the first word alone.
+#[derive(Clone, Copy, Debug, PartialEq, Eq)]
+pub enum BitOperation {
+    And,
+    Or,
+    Xor,
+    Not,
+    Negate,
 }
 
 /// A table of gates whose first inputs are two words, and a result. `Less` and `Equal` give a word of one bit, and
@@ -121,7 +134,32 @@ impl Circuit {
                 let word = select(alloc, &mut gates, a.as_slice()[0], a, b)?;
                 Ok(of_word(gates, word))
             }
+            Operation::Bits(operation) => {
+                let word = bits(alloc, &mut gates, operation, a, b)?;
+                Ok(of_word(gates, word))
+            }
         }
+    }
+}
+
+fn bits(
+    alloc: Global,
+    gates: &mut Gates,
+    operation: BitOperation,
+    a: &Word,
+    b: &Word,
+) -> Result<Word, NoMemory>
+    requires left { IsWordOf gates.old a.now }
+    requires right { IsWordOf gates.old b.now }
+    requires same { length b.now ≡ length a.now }
+    requires some { 0 < length a.now }
+{
+    match operation {
+        BitOperation::And => and(alloc, gates, a, b),
+        BitOperation::Or => or(alloc, gates, a, b),
+        BitOperation::Xor => xor(alloc, gates, a, b),
+        BitOperation::Not => not(alloc, a),
+        BitOperation::Negate => negate(alloc, gates, a),
     }
 }
 

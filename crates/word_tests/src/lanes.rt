@@ -1,6 +1,6 @@
 use gate_core::{Gate, Gates};
 use kv_base::NoMemory;
-use kv_clause::Lit;
+use sat_clause::Lit;
 use std::alloc::Global;
 
 /// How many patterns are evaluated at a time: bit j of a number is the truth in pattern j.

@@ -2,9 +2,11 @@
 #![tactic(auto)]
 
 mod circuit;
+#[cfg(test)]
+mod gates;
 mod lanes;
 #[cfg(test)]
 mod tests;
 
-pub use circuit::{Circuit, Operation};
+pub use circuit::{BitOperation, Circuit, Operation};
 pub use lanes::{LANES, evaluated, gate_count, inputs, is_set, word_in_lane};

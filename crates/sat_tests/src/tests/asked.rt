@@ -1,6 +1,6 @@
 use crate::tests::clauses::pigeons;
 use kv_base::NoMemory;
-use kv_clause::Cnf;
+use sat_clause::Cnf;
 use sat_core::{NeverPoll, PollAt};
 use sat_query::{Asked, ask};
 use std::alloc::Global;
@@ -23,7 +23,7 @@ fn pigeons_are_refuted(rt: HostRuntime) -> Result<(), Fail> {
     Ok(())
 }
 
-// Whether a poll that says yes at its n-th ask stops the search exactly where it was asked so often.
+/// Whether a poll that says yes at its n-th ask stops the search exactly where it was asked so often.
 fn stops_at(alloc: Global, cnf: &Cnf, at: u64) -> Result<bool, NoMemory> {
     let mut poll = PollAt::new(at);
     let asked = ask(alloc, cnf, 0, &mut poll)?;

@@ -1,7 +1,7 @@
 ghost use Rattle.std.specs.Prelude.{◌<◌};
 
 use kv_base::{NoMemory, Sequence};
-use kv_clause::{Clause, Cnf, Lit};
+use sat_clause::{Clause, Cnf, Lit};
 use sat_core::NeverPoll;
 use sat_query::{Asked, ask};
 use std::alloc::Global;
@@ -23,6 +23,7 @@ struct Random {
 }
 
 impl Random {
+    /// The next number.
     fn next(&mut self, below: u64) -> u64
         requires { 0 < below }
     {
@@ -31,6 +32,7 @@ impl Random {
         (self.state >> 33) % below
     }
 
+    /// Random triples of literals.
     fn triples(&mut self, alloc: Global, many: u64) -> Result<Vec<Triple>, NoMemory> {
         let mut made = Vec::new(alloc);
         for _triple in 0..many {
@@ -42,7 +44,7 @@ impl Random {
     }
 }
 
-// Whether a literal is true in a row of the truth table.
+/// Whether a literal is true in a row of the truth table.
 fn is_true(lit: u64, row: u64) -> bool {
     let table = match lit / 2 {
         0 => row,
@@ -54,11 +56,13 @@ fn is_true(lit: u64, row: u64) -> bool {
     table % 2 != lit % 2
 }
 
+/// Whether a row of truths meets the clause.
 fn is_met(triple: &Triple, row: u64) -> bool {
     let [one, two, three] = *triple;
     is_true(one, row) || is_true(two, row) || is_true(three, row)
 }
 
+/// Whether a row of truths meets all clauses.
 fn are_met(triples: &[Triple], row: u64) -> bool {
     for triple in triples {
         if !is_met(triple, row) {
@@ -68,6 +72,7 @@ fn are_met(triples: &[Triple], row: u64) -> bool {
     true
 }
 
+/// Whether some row of truths meets all clauses.
 fn has_row(triples: &[Triple]) -> bool {
     for row in 0..ROWS {
         if are_met(triples, row) {
@@ -77,6 +82,7 @@ fn has_row(triples: &[Triple]) -> bool {
     false
 }
 
+/// The clause of a triple.
 fn clause_of(alloc: Global, triple: &Triple) -> Result<Clause, NoMemory> {
     let mut clause = Sequence::new(alloc);
     for number in triple {
@@ -85,6 +91,7 @@ fn clause_of(alloc: Global, triple: &Triple) -> Result<Clause, NoMemory> {
     Ok(clause)
 }
 
+/// The clauses of triples.
 fn cnf_of(alloc: Global, triples: &[Triple]) -> Result<Cnf, NoMemory> {
     let mut clauses = Sequence::new(alloc);
     for triple in triples {
@@ -96,7 +103,7 @@ fn cnf_of(alloc: Global, triples: &[Triple]) -> Result<Cnf, NoMemory> {
     })
 }
 
-// Whether the answer is the truth table's.
+/// Whether the answer is the truth table's.
 fn agrees(alloc: Global, triples: &[Triple]) -> Result<bool, NoMemory> {
     let cnf = cnf_of(alloc, triples)?;
     Ok(match ask(alloc, &cnf, 0, &mut NeverPoll::new())? {

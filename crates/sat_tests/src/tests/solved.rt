@@ -5,6 +5,7 @@ use std::alloc::Global;
 use std::process::Abort;
 use std::test::Fail;
 
+/// Adds all clauses.
 fn add_all(alloc: Global, solver: &mut Solver, clauses: &[&[i8]]) -> Result<(), NoMemory> {
     for clause in clauses {
         solver.add(&lits(alloc, clause)?)?;
@@ -12,12 +13,14 @@ fn add_all(alloc: Global, solver: &mut Solver, clauses: &[&[i8]]) -> Result<(), 
     Ok(())
 }
 
+/// Whether the clauses are met under the assumed literals.
 fn is_sat(alloc: Global, solver: &mut Solver, assumed: &[i8]) -> Result<bool, NoMemory> {
     let assumed = lits(alloc, assumed)?;
     let answer = solver.solve(&assumed, 0, &mut NeverPoll::new())?;
     Ok(matches!(answer, Answer::Sat(_)))
 }
 
+/// Whether a refuted assumption has no part in the next answer.
 fn leaves_them_behind(alloc: Global, solver: &mut Solver) -> Result<bool, NoMemory> {
     add_all(alloc, solver, &[&[1, 2]])?;
     let is_refuted = !is_sat(alloc, solver, &[-1, -2])?;
@@ -31,6 +34,7 @@ fn assumed_literals_are_left_behind(rt: HostRuntime) -> Result<(), Fail> {
     Ok(())
 }
 
+/// Whether clauses with a literal twice or complementary ones are taken.
 fn takes_them(alloc: Global, solver: &mut Solver) -> Result<bool, NoMemory> {
     add_all(alloc, solver, &[&[1, -1], &[2, 2], &[-2, 3, 3, 1]])?;
     Ok(is_sat(alloc, solver, &[-1])? && !is_sat(alloc, solver, &[-1, -3])?)
@@ -43,6 +47,7 @@ fn literals_twice_and_complements(rt: HostRuntime) -> Result<(), Fail> {
     Ok(())
 }
 
+/// Whether the empty clause is refuted.
 fn refutes_the_empty(alloc: Global, solver: &mut Solver) -> Result<bool, NoMemory> {
     add_all(alloc, solver, &[&[], &[4]])?;
     Ok(!is_sat(alloc, solver, &[])?)

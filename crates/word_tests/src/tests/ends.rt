@@ -1,6 +1,6 @@
 use super::*;
 
-const OPERATIONS: [Operation; 10] = [
+const OPERATIONS: [Operation; 15] = [
     Operation::Add,
     Operation::Sub,
     Operation::Mul,
@@ -11,6 +11,11 @@ const OPERATIONS: [Operation; 10] = [
     Operation::Less,
     Operation::Equal,
     Operation::Select,
+    Operation::Bits(BitOperation::And),
+    Operation::Bits(BitOperation::Or),
+    Operation::Bits(BitOperation::Xor),
+    Operation::Bits(BitOperation::Not),
+    Operation::Bits(BitOperation::Negate),
 ];
 
 /// The lowest bits of a number.
@@ -42,6 +47,17 @@ fn ends(width: u32) -> [u128; 6] {
     [0, lowest(1, width), lowest(2, width), greatest, least, all]
 }
 
+/// The result of an operation on 128 bits.
+fn exact_bits(operation: BitOperation, a: u128, b: u128) -> u128 {
+    match operation {
+        BitOperation::And => a & b,
+        BitOperation::Or => a | b,
+        BitOperation::Xor => a ^ b,
+        BitOperation::Not => !a,
+        BitOperation::Negate => 0u128.wrapping_sub(a),
+    }
+}
+
 /// A result in 128 bits, and whether the exact one is another.
 fn exact_signed(operation: Operation, a: i128, b: i128) -> Option<(i128, bool)> {
     match operation {
@@ -51,6 +67,10 @@ fn exact_signed(operation: Operation, a: i128, b: i128) -> Option<(i128, bool)> 
         Operation::Div if b != 0 => Some((a.wrapping_div(b), a.checked_div(b).is_none())),
         Operation::Rem if b != 0 => Some((a.wrapping_rem(b), false)),
         Operation::Less => Some((i128::from(a < b), false)),
+        Operation::Bits(operation) => {
+            let bits = exact_bits(operation, a.cast_unsigned(), b.cast_unsigned());
+            Some((bits.cast_signed(), false))
+        }
         _ => None,
     }
 }
@@ -66,6 +86,7 @@ fn exact_unsigned(operation: Operation, a: u128, b: u128) -> Option<(u128, bool)
         Operation::Less => Some((u128::from(a < b), false)),
         Operation::Equal => Some((u128::from(a == b), false)),
         Operation::Select => Some((if a & 1 == 1 { a } else { b }, false)),
+        Operation::Bits(operation) => Some((exact_bits(operation, a, b), false)),
         _ => None,
     }
 }
@@ -180,7 +201,7 @@ fn width_agrees(
 
 #[test]
 fn ends_with_signs(rt: HostRuntime) -> Result<(), Fail> {
-    for (width, pairs) in [(1, 216), (7, 240), (32, 240), (64, 240), (128, 240)] {
+    for (width, pairs) in [(1, 396), (7, 420), (32, 420), (64, 420), (128, 420)] {
         assert_eq!(rt;
             width_agrees(&rt, rt.alloc(), width, true)?,
             pairs,
@@ -192,7 +213,7 @@ fn ends_with_signs(rt: HostRuntime) -> Result<(), Fail> {
 
 #[test]
 fn ends_without_signs(rt: HostRuntime) -> Result<(), Fail> {
-    for (width, pairs) in [(1, 288), (7, 312), (32, 312), (64, 312), (128, 312)] {
+    for (width, pairs) in [(1, 468), (7, 492), (32, 492), (64, 492), (128, 492)] {
         assert_eq!(rt;
             width_agrees(&rt, rt.alloc(), width, false)?,
             pairs,

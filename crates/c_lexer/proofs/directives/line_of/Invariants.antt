@@ -1,5 +1,5 @@
 use Rattle.std.proofs.Common.{◌≡◌, ◌++◌, drop, vec_len}
-use Rattle.c_model.specs.Directives.{line_from, Outside}
+use Rattle.c_tokens.specs.Directives.{line_from, Outside}
 use Rattle.c_lexer.specs.Forms.{context_view}
 use Rattle.c_lexer.proofs.directives.line_of.Given as goal
 

@@ -1,5 +1,5 @@
 use Rattle.std.proofs.Common.{◌≡◌, drop}
-use Rattle.c_model.specs.Directives.{open_comment, Outside}
+use Rattle.c_tokens.specs.Directives.{open_comment, Outside}
 use Rattle.c_lexer.specs.Forms.{context_view}
 use Rattle.c_lexer.proofs.directives.open_comment.Given as goal
 

@@ -1,5 +1,5 @@
 use Rattle.std.proofs.Common.{◌≡◌, ◌+◌, drop}
-use Rattle.c_model.specs.Reading.{splice_from}
+use Rattle.c_tokens.specs.Reading.{splice_from}
 use Rattle.c_lexer.proofs.lexer.first_splice.Given as goal
 
 -- none stands before this place

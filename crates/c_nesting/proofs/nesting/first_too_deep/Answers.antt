@@ -2,7 +2,7 @@ use Rattle.std.proofs.Common.{arith, ◌∙◌, ap}
 use Rattle.std.proofs.lemmas.Option.{slice_get-get_or}
 use Rattle.c_tree.specs.Nesting.{measure, depth_after}
 use Rattle.c_tree.specs.SpellsText.{kinds_of}
-use Rattle.c_grammar.proofs.Depths.{begins, counts_go_on, within_on, length-kinds_of}
+use Rattle.c_nesting.proofs.Depths.{begins, counts_go_on, within_on, length-kinds_of}
 use Rattle.c_nesting.proofs.nesting.first_too_deep.Goals as goal
 
 pub loop-i-init : goal.loop-i-init

@@ -1,6 +1,6 @@
 use Rattle.std.proofs.Common.{rules}
 use Rattle.c_tree.specs.SpellsText.{kinds_of}
-use Rattle.c_marks.specs.Reads.{titled_of}
+use Rattle.c_cursor.specs.Reads.{titled_of}
 use Rattle.c_parser.proofs.ExternalEnds.{external_goes_on}
 use Rattle.c_parser.proofs.externals.external_after.Goals as goal
 

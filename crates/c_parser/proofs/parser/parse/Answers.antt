@@ -4,4 +4,4 @@ use Rattle.c_parser.proofs.parser.parse.Goals as goal
 
 pub returns-clause-syntax : goal.returns-clause-syntax
 returns-clause-syntax c at is =
-    refused_whole c.args.tokens.now c.as_slice-tokens.result.now c.whole.result at (search rules) (search rules) (search rules) c.whole.ensures is
+    refused_whole c.args.tokens.now c.as_slice-tokens.result.now c.bounded.result at (search rules) (search rules) (search rules) c.bounded.ensures.tree is

@@ -1,5 +1,5 @@
 use Rattle.std.proofs.Common.{◌≡◌, ◌+◌, drop}
-use Rattle.c_model.specs.Pieces.{run_size}
+use Rattle.c_tokens.specs.Pieces.{run_size}
 use Rattle.c_scan.specs.Runs.{goes_on}
 use Rattle.c_scan.proofs.bytes.run_size.Given as goal
 

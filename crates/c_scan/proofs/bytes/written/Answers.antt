@@ -1,5 +1,5 @@
 use Rattle.std.proofs.Common.{◌^◌, ◌∙◌, get_or, arith}
-use Rattle.c_model.specs.Pieces.{digit_value}
+use Rattle.c_tokens.specs.Pieces.{digit_value}
 use Rattle.c_scan.proofs.Digits.{stays_large, large_product, large_sum}
 use Rattle.c_scan.proofs.bytes.written.Goals as goal
 

@@ -1,5 +1,5 @@
 use Rattle.std.proofs.Common.{◌≡◌, ◌<◌, ◌^◌, take}
-use Rattle.c_model.specs.Pieces.{written}
+use Rattle.c_tokens.specs.Pieces.{written}
 use Rattle.c_scan.proofs.bytes.written.Given as goal
 
 -- the number that the digits so far write

@@ -1,5 +1,5 @@
 use Rattle.std.proofs.Common.{◌≡◌, drop}
-use Rattle.c_model.specs.Constants.{first_for}
+use Rattle.c_tokens.specs.Constants.{first_for}
 use Rattle.c_scan.proofs.constants.first_for.Given as goal
 
 -- no type so far can represent the value

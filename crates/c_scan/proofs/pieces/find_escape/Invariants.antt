@@ -1,5 +1,5 @@
 use Rattle.std.proofs.Common.{◌≡◌, drop}
-use Rattle.c_model.specs.Words.{lookup}
+use Rattle.c_tokens.specs.Words.{lookup}
 use Rattle.c_scan.specs.Escapes.{escapes}
 use Rattle.c_scan.proofs.pieces.find_escape.Given as goal
 

@@ -1,5 +1,5 @@
 use Rattle.std.proofs.Common.{◌≡◌, drop}
-use Rattle.c_model.specs.Pieces.{has_doubtful_quote}
+use Rattle.c_tokens.specs.Pieces.{has_doubtful_quote}
 use Rattle.c_scan.proofs.pieces.has_doubtful_quote.Given as goal
 
 -- none stands before this place

@@ -1,5 +1,4 @@
-use Rattle.std.proofs.Common.{◌≡◌, ℕ, Option, IfOk, Ok, Result, subst, sym, ◌∙◌, arith, ◌<◌}
-use Rattle.c_straight.specs.Straight.{sum_of, sum_by}
+use Rattle.std.proofs.Common.{sym, arith}
 use Rattle.c_straight.proofs.SumSteps.{sum_none, sum_deeper}
 use Rattle.c_straight.proofs.sums.+sum.Goals as goal
 

@@ -1,6 +1,6 @@
 use Rattle.std.proofs.Common.{◌<◌, take}
 use Rattle.std.specs.List.{All}
-use Rattle.kv_clause.specs.Literals.{variable_of}
+use Rattle.sat_clause.specs.Literals.{variable_of}
 use Rattle.kv_clause.proofs.below.bounds_are_below.Given as goal
 
 abbrev pub invariant-loop-bound : goal.invariant-loop-bound

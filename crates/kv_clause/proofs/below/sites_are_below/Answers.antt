@@ -2,7 +2,7 @@ use Rattle.std.proofs.Common.{◌<◌, ℕ, List, subst, refl, arith}
 use Rattle.std.specs.List.{All}
 use Rattle.std.proofs.lemmas.List.{take_all}
 use Rattle.std.proofs.lemmas.List.Elements.{All-more}
-use Rattle.kv_clause.specs.Literals.{variable_of, AreBelow}
+use Rattle.sat_clause.specs.Literals.{variable_of, AreBelow}
 use Rattle.kv_clause.specs.declared.template.Site.{Site}
 use Rattle.kv_clause.proofs.below.sites_are_below.Goals as goal
 

@@ -1,6 +1,6 @@
 use Rattle.std.proofs.Common.{◌<◌, take}
 use Rattle.std.specs.List.{All}
-use Rattle.kv_clause.specs.Literals.{variable_of, AreBelow}
+use Rattle.sat_clause.specs.Literals.{variable_of, AreBelow}
 use Rattle.kv_clause.proofs.below.sites_are_below.Given as goal
 
 abbrev pub invariant-loop-site : goal.invariant-loop-site

@@ -1,5 +1,5 @@
 use Rattle.std.proofs.Common.{◌≡◌, map, take}
-use Rattle.kv_clause.specs.Literals.{moved}
+use Rattle.sat_clause.specs.Literals.{moved}
 use Rattle.kv_clause.proofs.block.moved_clause.Given as goal
 
 abbrev pub invariant-loop-lit : goal.invariant-loop-lit

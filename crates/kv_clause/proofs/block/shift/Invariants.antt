@@ -1,5 +1,5 @@
 use Rattle.std.proofs.Common.{◌≡◌, map, take}
-use Rattle.kv_clause.specs.Literals.{moved}
+use Rattle.sat_clause.specs.Literals.{moved}
 use Rattle.kv_clause.proofs.block.shift.Given as goal
 
 abbrev pub invariant-loop-clause : goal.invariant-loop-clause

@@ -1,5 +1,5 @@
 use Rattle.std.proofs.Common.{◌≡◌, map, take}
-use Rattle.kv_clause.specs.Literals.{complement_of}
+use Rattle.sat_clause.specs.Literals.{complement_of}
 use Rattle.kv_clause.proofs.fixed.complements.Given as goal
 
 abbrev pub invariant-loop-lit : goal.invariant-loop-lit

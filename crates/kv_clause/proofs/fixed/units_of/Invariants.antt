@@ -1,5 +1,5 @@
 use Rattle.std.proofs.Common.{◌≡◌, take}
-use Rattle.kv_clause.specs.Queries.{units}
+use Rattle.sat_clause.specs.Literals.{units}
 use Rattle.kv_clause.proofs.fixed.units_of.Given as goal
 
 abbrev pub invariant-loop-lit : goal.invariant-loop-lit

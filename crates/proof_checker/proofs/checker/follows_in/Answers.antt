@@ -1,6 +1,6 @@
 use Rattle.std.proofs.Common.{ℕ, ◌≡◌, ◌↔◌, List, map, Result, Ok, Err, IfOk, Bool, IsTrue, sym, ap, subst, ◌∙◌}
-use Rattle.kv_clause.specs.Literals.{complement_of}
-use Rattle.kv_clause.specs.Propagation.{Refuted, Follows}
+use Rattle.sat_clause.specs.Literals.{complement_of}
+use Rattle.sat_clause.specs.Propagation.{Refuted, Follows}
 use Rattle.proof_checker.proofs.Bases.{Follows-refuted, Refuted-follows}
 use Rattle.proof_checker.proofs.checker.follows_in.Goals as goal
 

@@ -1,5 +1,5 @@
 use Rattle.std.proofs.Common.{ℕ, ◌<◌, List, [], Option, IfSome, length, refl, subst, ◌∙◌}
-use Rattle.kv_clause.specs.Propagation.{clause_at}
+use Rattle.sat_clause.specs.Propagation.{clause_at}
 use Rattle.sat_engine.specs.Grow.{Grows}
 use Rattle.sat_engine.specs.Look.{AreFalse}
 use Rattle.sat_engine.proofs.Growing.{Grows-trans, Grows-imply}

@@ -1,7 +1,7 @@
 use Rattle.std.proofs.Common.{ℕ, List, false, refl, get_or, subst, sym, ◌∙◌, arith, below_more}
 use Rattle.std.proofs.lemmas.List.{get_or_read}
 use Rattle.std.proofs.lemmas.List.Elements.{Contains-get_or}
-use Rattle.kv_clause.specs.Literals.{complement_of}
+use Rattle.sat_clause.specs.Literals.{complement_of}
 use Rattle.sat_engine.specs.declared.trail.Reason.TheVariants.{Assumed}
 use Rattle.sat_engine.specs.declared.trail.Step.{Step}
 use Rattle.sat_engine.specs.Trail.{IsSet}

@@ -1,7 +1,7 @@
 use Rattle.std.proofs.Common.{ℕ, ◌≡◌, List, Bool, Option, None, false, length, get_or, inr, subst, sym, ap, ◌∙◌, arith}
 use Rattle.std.proofs.lemmas.Bool.{both_ways}
 use Rattle.std.proofs.lemmas.List.Elements.{Contains-get_or}
-use Rattle.kv_clause.specs.Literals.{complement_of}
+use Rattle.sat_clause.specs.Literals.{complement_of}
 use Rattle.proof_checker.specs.Scan.{SoFar, IsHeld}
 use Rattle.proof_checker.proofs.Scans.{held_false, held_unit}
 use Rattle.proof_checker.proofs.scan.classify.Goals as goal

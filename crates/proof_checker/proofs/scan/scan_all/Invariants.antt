@@ -1,5 +1,5 @@
 use Rattle.std.proofs.Common.{ℕ, ◌-◌, ◌<◌, ◌≤◌, length}
-use Rattle.kv_clause.specs.Propagation.{clause_at}
+use Rattle.sat_clause.specs.Propagation.{clause_at}
 use Rattle.proof_checker.specs.Scan.{IsSettled}
 use Rattle.proof_checker.proofs.scan.scan_all.Given as goal
 

@@ -1,6 +1,6 @@
 use Rattle.std.proofs.Common.{ℕ, ◌≡◌, ◌++◌, List, [], ◌∷◌, Bool, if◌then◌else◌, sym, subst, ◌∙◌, below_more}
 use Rattle.std.proofs.lemmas.Bool.{false≢true}
-use Rattle.kv_clause.specs.Propagation.{clause_at}
+use Rattle.sat_clause.specs.Propagation.{clause_at}
 use Rattle.proof_checker.specs.Checking.{IsFirstBad, IsRefutation}
 use Rattle.proof_checker.proofs.Checkings.{first_bad, refutation, onward, taken, element_at}
 use Rattle.proof_checker.proofs.verdict.check.Goals as goal

@@ -3,7 +3,7 @@ use Rattle.std.proofs.lemmas.Bool.{false≢true}
 use Rattle.sat_engine.specs.Look.{AreInRange}
 use Rattle.sat_search.specs.State.{IsState}
 use Rattle.sat_search.proofs.States.{IsState-more}
-use Rattle.sat_search.proofs.Flips.{AreInRange-push}
+use Rattle.sat_engine.proofs.Ranges.{AreInRange-push}
 use Rattle.sat_core.proofs.Idle.{IsIdle-from}
 use Rattle.sat_core.proofs.setup.insert_some.Goals as goal
 

@@ -1,7 +1,7 @@
 use Rattle.std.proofs.Common.{ℕ, ◌≡◌, ◌<◌, List, [], Bool, true, length, refl, sym, ap, subst, ◌∙◌, arith, Ok}
 use Rattle.std.specs.List.{Contains}
 use Rattle.std.proofs.lemmas.List.{get_or_default}
-use Rattle.kv_clause.specs.Propagation.{clause_at}
+use Rattle.sat_clause.specs.Propagation.{clause_at}
 use Rattle.sat_engine.specs.Look.{InRange, AreFalse, AreFalseBut}
 use Rattle.sat_search.specs.declared.parts.Parts.{Parts}
 use Rattle.sat_search.specs.State.{IsState}

@@ -1,6 +1,6 @@
 use Rattle.std.proofs.Common.{ℕ, ◌≡◌, ◌≢◌, ◌<◌, true, false, get_or}
 use Rattle.std.specs.List.{Contains}
-use Rattle.kv_clause.specs.Literals.{complement_of}
+use Rattle.sat_clause.specs.Literals.{complement_of}
 use Rattle.sat_engine.specs.Trail.{IsSet}
 use Rattle.sat_engine.proofs.look.look_at.Given as goal
 

@@ -2,8 +2,8 @@ use Rattle.std.proofs.Common.{ℕ, ◌<◌, List, [], length, Bool, true, false,
 use Rattle.std.specs.List.{HoldsAt, AllWithin}
 use Rattle.std.proofs.lemmas.Iterator.{cases_from_all, YieldsList-from_slice}
 use Rattle.std.proofs.lemmas.Bool.{false≢true}
-use Rattle.kv_clause.specs.Literals.{truths}
-use Rattle.kv_clause.proofs.Truths.{met_at, met-from_each}
+use Rattle.sat_clause.specs.Literals.{truths}
+use Rattle.sat_clause.proofs.Truths.{met_at, met-from_each}
 use Rattle.sat_query.specs.Asking.{IsClauseMet, IsMet}
 use Rattle.sat_query.proofs.asking.are_met.Goals as goal
 

@@ -1,6 +1,6 @@
 use Rattle.std.proofs.Common.{ℕ, ◌≡◌, ◌<◌, ◌++◌, List, [], ◌∷◌, length, get_or, take, sym, ap, subst, ◌∙◌, arith}
 use Rattle.std.proofs.lemmas.List.{take_more, get_or_read}
-use Rattle.kv_clause.specs.Literals.{AreBelow}
+use Rattle.sat_clause.specs.Literals.{AreBelow}
 use Rattle.sat_query.proofs.asking.begin.Goals as goal
 
 pub loop-clause-preserved : goal.loop-clause-preserved

@@ -1,5 +1,5 @@
 use Rattle.std.proofs.Common.{ℕ, ◌≡◌, ◌<◌, ◌≤◌, [], take, get_or}
-use Rattle.kv_clause.specs.Literals.{AreBelow}
+use Rattle.sat_clause.specs.Literals.{AreBelow}
 use Rattle.sat_query.proofs.asking.begin.Given as goal
 
 abbrev pub invariant-loop-clause : goal.invariant-loop-clause

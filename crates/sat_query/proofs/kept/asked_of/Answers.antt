@@ -1,8 +1,6 @@
 use Rattle.std.proofs.Common.{subst}
-use Rattle.kv_clause.specs.Literals.{truths}
 use Rattle.sat_core.specs.declared.solver.Answer.{Answer}
 use Rattle.sat_core.specs.Solving.{AnswerSays}
-use Rattle.sat_query.proofs.Logs.{met_front}
 use Rattle.sat_query.proofs.kept.asked_of.Goals as goal
 
 pub returns-in-Sat-clause-answer : goal.returns-in-Sat-clause-answer
@@ -11,7 +9,7 @@ returns-in-Sat-clause-answer g c =
     let s = c.args.solver.now in
     let t = c.solve.new.self in
     let says = subst (λ (x : Answer). AnswerSays t.vars s.clauses t.clauses c.args.asked.now c.args.budget x) c.in-Sat.is e.answer in
-    (met_front t.vars s.clauses t.clauses e.learnt (truths c.in-Sat.found) says.clauses, says.literals)
+    says
 
 pub returns-in-Unsat-clause-answer : goal.returns-in-Unsat-clause-answer
 returns-in-Unsat-clause-answer g c =

@@ -1,6 +1,6 @@
 use Rattle.std.proofs.Common.{ℕ, ◌≡◌, ◌*◌, ◌<◌, ◌≤◌, ◌++◌, ◌∷◌, [], List, Bool, Option, None, Some, length, arith, subst, sym, ap, ◌∙◌}
-use Rattle.kv_clause.specs.Literals.{complement_of}
-use Rattle.kv_clause.specs.Propagation.{clause_at}
+use Rattle.sat_clause.specs.Literals.{complement_of}
+use Rattle.sat_clause.specs.Propagation.{clause_at}
 use Rattle.std.specs.List.{Contains}
 use Rattle.sat_engine.specs.declared.trail.Step.{Step}
 use Rattle.sat_engine.specs.Trail.{lit_at}

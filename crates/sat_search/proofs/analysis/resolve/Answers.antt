@@ -1,5 +1,5 @@
 use Rattle.std.proofs.Common.{ℕ, ◌≡◌, ◌<◌, ◌/◌, List, length, arith, subst, sym, ◌∙◌, set, false, Bool, refl}
-use Rattle.kv_clause.specs.Propagation.{clause_at}
+use Rattle.sat_clause.specs.Propagation.{clause_at}
 use Rattle.sat_engine.specs.declared.trail.Reason.{Reason}
 use Rattle.sat_engine.specs.declared.trail.Reason.TheVariants.{Free, Assumed, Clause}
 use Rattle.sat_engine.specs.declared.trail.Step.{Step}

@@ -1,6 +1,6 @@
 use Rattle.std.proofs.Common.{ℕ, List, Some, None, sym, ap, arith, ◌∙◌}
 use Rattle.std.proofs.lemmas.Bool.{false≢true}
-use Rattle.kv_clause.specs.Propagation.{clause_at}
+use Rattle.sat_clause.specs.Propagation.{clause_at}
 use Rattle.sat_search.specs.State.{is_choice}
 use Rattle.sat_search.proofs.StepReads.{reason_read}
 use Rattle.sat_search.proofs.Repairs.{IsLastPlace-at, IsSpot-from, top_below, Conflict-empty, Conflict-no_choice, Conflict-assumed}

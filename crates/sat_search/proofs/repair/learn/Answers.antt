@@ -1,7 +1,7 @@
 use Rattle.std.proofs.Common.{ℕ, ◌≡◌, ◌<◌, ◌+◌, ◌/◌, List, length, get_or, take, subst, sym, ap, ◌∙◌, arith}
 use Rattle.std.proofs.lemmas.List.{length-take-le}
-use Rattle.kv_clause.specs.Literals.{complement_of}
-use Rattle.kv_clause.proofs.Truths.{complement_variable}
+use Rattle.sat_clause.specs.Literals.{complement_of}
+use Rattle.sat_clause.proofs.Truths.{complement_variable}
 use Rattle.sat_engine.specs.declared.trail.Step.{Step}
 use Rattle.sat_engine.specs.Look.{AreInRange, InRange}
 use Rattle.sat_engine.specs.Trail.{IsTrail}

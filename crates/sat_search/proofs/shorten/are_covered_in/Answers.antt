@@ -1,5 +1,5 @@
 use Rattle.std.proofs.Common.{ℕ, ◌*◌, List, length, refl, sym, subst}
-use Rattle.kv_clause.specs.Propagation.{clause_at}
+use Rattle.sat_clause.specs.Propagation.{clause_at}
 use Rattle.sat_engine.specs.Look.{InRange}
 use Rattle.sat_search.proofs.StepReads.{AreCovered-at}
 use Rattle.sat_search.proofs.shorten.are_covered_in.Goals as goal

@@ -1,5 +1,5 @@
 use Rattle.std.proofs.Common.{ℕ, ◌≡◌, ◌/◌, ◌<◌, ◌++◌, inl, inr, List, [], ◌∷◌, Bool, length, get_or, set, true, sym, ap, subst, ◌∙◌, arith}
-use Rattle.kv_clause.specs.Literals.{complement_of}
+use Rattle.sat_clause.specs.Literals.{complement_of}
 use Rattle.sat_engine.specs.declared.trail.Step.{Step}
 use Rattle.sat_engine.specs.Trail.{lit_at}
 use Rattle.sat_search.specs.Analysis.{IsMarked}

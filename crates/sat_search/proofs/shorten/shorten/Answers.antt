@@ -1,7 +1,7 @@
 use Rattle.std.proofs.Common.{ℕ, ◌*◌, ◌/◌, ◌<◌, List, Bool, length, get_or, sym, subst, arith}
 use Rattle.std.proofs.lemmas.List.Elements.{Contains-get_or}
-use Rattle.kv_clause.specs.Literals.{complement_of}
-use Rattle.kv_clause.proofs.Truths.{complement_variable}
+use Rattle.sat_clause.specs.Literals.{complement_of}
+use Rattle.sat_clause.proofs.Truths.{complement_variable}
 use Rattle.sat_engine.specs.declared.trail.Step.{Step}
 use Rattle.sat_engine.specs.Trail.{IsSet, IsTrail}
 use Rattle.sat_engine.specs.Look.{InRange}

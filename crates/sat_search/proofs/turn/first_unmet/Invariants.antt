@@ -1,5 +1,5 @@
 use Rattle.std.proofs.Common.{ℕ, ◌-◌, ◌<◌, ◌≤◌, length}
-use Rattle.kv_clause.specs.Propagation.{clause_at}
+use Rattle.sat_clause.specs.Propagation.{clause_at}
 use Rattle.sat_search.specs.Turn.{HasTrue}
 use Rattle.sat_search.proofs.turn.first_unmet.Given as goal
 

@@ -1,23 +1,18 @@
-use Rattle.std.proofs.Common.{rules, ◌≡◌, sym, ap, ◌∙◌}
+use Rattle.std.proofs.Common.{rules, ◌≡◌, refl, ap, ◌∙◌}
 use Rattle.std.proofs.lemmas.Int.{to_z-of_z}
 use Rattle.std.specs.Int.{w128}
-use Rattle.kv_num.proofs.Held.{held}
 use Rattle.term_core.specs.declared.term.UnaryOp.{UnaryOp}
 use Rattle.term_core.specs.declared.term.TermKind.TheVariants.{Unary}
-use Rattle.term_core.specs.Shape.{shape_of}
-use Rattle.term_core.specs.Table.{shape_at}
 use Rattle.term_core.specs.Term.{unary_value}
-use Rattle.term_fold.proofs.Constants.{in_range}
 use Rattle.term_fold.proofs.Known.{unary_computed, unary_back}
 use Rattle.term_fold.proofs.simpler.unary.Goals as goal
 
-pub returns-in-Some-integer_type : goal.returns-in-Some-integer_type
-returns-in-Some-integer_type c =
-    let t = c.in-Some-integer_type.t in
+pub returns-in-Some : goal.returns-in-Some
+returns-in-Some c =
     let n = c.in-Some.number in
-    let held_number = to_z-of_z w128 n (held t n (in_range t (shape_at c.args.terms.now c.args.of.0) n (c.in-Some-integer_type.ensures ∙ sym c.requires.1) c.in-Some.ensures.has)) in
-    unary_computed c.args.terms.now c.args.shape (shape_of t) c.args.op c.args.of n _ c.in-Some-integer_type.ensures c.in-Some.ensures
-    (to_z-of_z w128 c.unary.result (search rules) ∙ (c.unary.ensures ∙ ap (unary_value (shape_of t) c.args.op) held_number))
+    let held_number = to_z-of_z w128 n (search rules) in
+    unary_computed c.args.terms.now c.args.shape c.args.shape c.args.op c.args.of n _ refl c.in-Some.ensures
+    (to_z-of_z w128 c.unary.result (search rules) ∙ (c.unary.ensures ∙ ap (unary_value c.args.shape c.args.op) held_number))
 
 pub returns-then-eq : goal.returns-then-eq
 returns-then-eq c =

@@ -1,7 +1,7 @@
 use Rattle.std.proofs.Common.{arith, ◌≡◌, length, ap, sym, subst, ◌∙◌, false}
 use Rattle.kv_num.specs.Bits.{differ}
-use Rattle.kv_shape.specs.Shape.{wrap_at, InShape}
-use Rattle.kv_clause.specs.Literals.{is_true}
+use Rattle.kv_num.specs.Shape.{wrap_at, InShape}
+use Rattle.sat_clause.specs.Literals.{is_true}
 use Rattle.word_sums.specs.Words.{number, signed_number, word_value}
 use Rattle.word_sums.proofs.Growth.{Grows-trans}
 use Rattle.word_sums.proofs.Totals.{same_shape_at}

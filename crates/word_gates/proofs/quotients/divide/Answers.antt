@@ -1,5 +1,5 @@
 use Rattle.std.proofs.Common.{arith, ◌+◌, ◌-◌, ◌∷◌, length, drop, ap, ◌∙◌}
-use Rattle.kv_clause.specs.Literals.{is_true}
+use Rattle.sat_clause.specs.Literals.{is_true}
 use Rattle.word_sums.specs.Words.{bit, number}
 use Rattle.word_sums.proofs.Growth.{Grows-trans, word_grown, word_below}
 use Rattle.word_sums.proofs.Numbers.{bit-le}

@@ -1,6 +1,6 @@
 use Rattle.std.proofs.Common.{arith, ◌+◌, ◌<◌, take, ◌∙◌}
 use Rattle.std.proofs.lemmas.Nat.{one_shl}
-use Rattle.kv_clause.specs.Literals.{is_true}
+use Rattle.sat_clause.specs.Literals.{is_true}
 use Rattle.word_sums.specs.Words.{number, continued_value}
 use Rattle.word_sums.proofs.Growth.{Grows-trans}
 use Rattle.word_sums.proofs.Numbers.{number-take}

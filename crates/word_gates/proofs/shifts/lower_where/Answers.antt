@@ -1,7 +1,7 @@
 use Rattle.std.proofs.Common.{arith, ◌≤◌, ◌++◌, length, ap, ◌∙◌}
 use Rattle.std.proofs.Math.ListN.{replicate}
 use Rattle.kv_num.specs.Shift.{right_of}
-use Rattle.kv_clause.specs.Literals.{is_true}
+use Rattle.sat_clause.specs.Literals.{is_true}
 use Rattle.word_sums.specs.Words.{number, continued_value}
 use Rattle.word_sums.proofs.Pieces.{rest_is}
 use Rattle.word_gates.proofs.Moves.{lowered_value, lowered_length, lowered_choice, swapped_choice}

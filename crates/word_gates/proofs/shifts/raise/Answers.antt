@@ -1,7 +1,7 @@
 use Rattle.std.proofs.Common.{arith, ◌<◌, ◌+◌, ◌*◌, ◌%◌, ◌^◌, nat_lt, not, length, take, ap, subst, sym, ◌∙◌}
 use Rattle.std.proofs.lemmas.Nat.{one_shl, pow_pos}
 use Rattle.std.proofs.lemmas.List.{take_all}
-use Rattle.kv_clause.specs.Literals.{is_true}
+use Rattle.sat_clause.specs.Literals.{is_true}
 use Rattle.word_sums.specs.Words.{number, IsWordOf}
 use Rattle.word_sums.proofs.Growth.{Grows-trans, word_grown, word_literal}
 use Rattle.word_sums.proofs.Numbers.{number-take}

@@ -1,5 +1,5 @@
 use Rattle.std.proofs.Common.{◌≡◌, ◌*◌, ◌%◌, ◌^◌, nat_lt, not, ℕ, Bool, length, take}
-use Rattle.kv_clause.specs.Literals.{is_true}
+use Rattle.sat_clause.specs.Literals.{is_true}
 use Rattle.gate_core.specs.Table.{Agrees, IsLitOf, Grows}
 use Rattle.word_sums.specs.Words.{number, IsWordOf}
 use Rattle.word_gates.proofs.shifts.raise.Given as goal

@@ -1,6 +1,6 @@
 use Rattle.word_sums.proofs.Growth.{Grows-trans}
 use Rattle.std.proofs.Common.{arith, ◌≤◌, ◌-◌, ◌==◌, ◌&&◌, ◌||◌, not, length, drop, ap, ◌∙◌, if◌then◌else◌, refl}
-use Rattle.kv_clause.specs.Literals.{is_true}
+use Rattle.sat_clause.specs.Literals.{is_true}
 use Rattle.word_sums.specs.Words.{number}
 use Rattle.word_sums.proofs.Pieces.{rest_is}
 use Rattle.word_gates.proofs.Moves.{raised_value, raised_past, swapped_choice}

@@ -1,7 +1,7 @@
 use Rattle.word_sums.proofs.Growth.{Grows-trans}
 use Rattle.std.proofs.Common.{arith, ◌≡◌, ◌+◌, ◌-◌, ◌*◌, ◌%◌, ◌^◌, ◌<◌, ◌≤◌, nat_lt, not, length, take, ap, ◌∙◌}
-use Rattle.kv_clause.specs.Literals.{is_true}
-use Rattle.kv_clause.proofs.Truths.{is_true-complement}
+use Rattle.sat_clause.specs.Literals.{is_true}
+use Rattle.sat_clause.proofs.Truths.{is_true-complement}
 use Rattle.word_sums.specs.Words.{number}
 use Rattle.word_sums.proofs.Pieces.{number-short}
 use Rattle.word_gates.proofs.Moves.{left_value, left_fits}

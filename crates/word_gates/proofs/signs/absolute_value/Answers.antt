@@ -1,5 +1,5 @@
 use Rattle.word_sums.proofs.Growth.{Grows-trans}
-use Rattle.kv_clause.specs.Literals.{is_true}
+use Rattle.sat_clause.specs.Literals.{is_true}
 use Rattle.word_gates.proofs.Negations.{magnitude_value}
 use Rattle.word_gates.proofs.signs.absolute_value.Goals as goal
 

@@ -1,6 +1,6 @@
 use Rattle.std.proofs.Common.{ap, ◌∙◌}
 use Rattle.kv_num.specs.Bits.{differ}
-use Rattle.kv_clause.specs.Literals.{is_true}
+use Rattle.sat_clause.specs.Literals.{is_true}
 use Rattle.word_sums.proofs.Growth.{Grows-trans}
 use Rattle.word_gates.proofs.signs.negated_digit.Goals as goal
 

@@ -1,5 +1,5 @@
 use Rattle.std.proofs.Common.{◌≡◌, ◌==◌, ◌+◌, ◌*◌, ◌^◌, not, ℕ, Bool, length, take, if◌then◌else◌}
-use Rattle.kv_clause.specs.Literals.{is_true}
+use Rattle.sat_clause.specs.Literals.{is_true}
 use Rattle.gate_core.specs.Table.{Agrees, IsLitOf, Grows}
 use Rattle.word_sums.specs.Words.{bit, number, IsWordOf}
 use Rattle.word_gates.proofs.signs.negated_digits.Given as goal

@@ -1,5 +1,5 @@
 use Rattle.std.proofs.Common.{arith, ◌≡◌, ◌+◌, ◌-◌, length}
-use Rattle.kv_clause.specs.Literals.{is_true}
+use Rattle.sat_clause.specs.Literals.{is_true}
 use Rattle.word_sums.proofs.Growth.{Grows-trans, word_grown, word_pushed}
 use Rattle.word_gates.proofs.Negations.{negated_last}
 use Rattle.word_gates.proofs.signs.negated_where.Goals as goal

@@ -1,5 +1,5 @@
 use Rattle.std.proofs.Common.{arith, ◌≡◌, ◌+◌, ◌-◌, ◌*◌, ◌^◌, Bool, length, sym, subst, pos, ◌-ℤ◌}
-use Rattle.kv_clause.specs.Literals.{is_true}
+use Rattle.sat_clause.specs.Literals.{is_true}
 use Rattle.word_sums.specs.Words.{bit, number, word_value}
 use Rattle.word_gates.proofs.Negations.{value_signed, value_unsigned}
 use Rattle.word_gates.proofs.signs.sign.Goals as goal

@@ -1,6 +1,6 @@
 use Rattle.word_sums.proofs.Growth.{Grows-trans}
 use Rattle.std.proofs.Common.{arith, ◌≡◌, ◌+◌, ◌-◌, length, ap, sym}
-use Rattle.kv_clause.specs.Literals.{is_true}
+use Rattle.sat_clause.specs.Literals.{is_true}
 use Rattle.word_gates.proofs.Exact.{wrapped_absolute, absolute_fits}
 use Rattle.word_gates.proofs.signs.with_sign.Goals as goal
 

@@ -1,5 +1,5 @@
 use Rattle.std.proofs.Common.{arith, ◌≡◌, ◌+◌, ◌-◌, ◌*◌, length, ap, sym, subst}
-use Rattle.kv_clause.specs.Literals.{is_true}
+use Rattle.sat_clause.specs.Literals.{is_true}
 use Rattle.word_sums.specs.Words.{bit, number, IsWordOf}
 use Rattle.word_sums.proofs.Growth.{Grows-trans, word_pushed, word_rest}
 use Rattle.word_products.proofs.Rows.{row_value, row_total}

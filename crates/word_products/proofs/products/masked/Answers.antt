@@ -1,6 +1,6 @@
 use Rattle.std.proofs.Common.{arith}
 use Rattle.std.proofs.lemmas.Grind.{common_steps}
-use Rattle.kv_clause.specs.Literals.{is_true}
+use Rattle.sat_clause.specs.Literals.{is_true}
 use Rattle.word_sums.proofs.Growth.{Grows-trans, word_grown, word_pushed}
 use Rattle.word_products.proofs.Rows.{masked_more}
 use Rattle.word_products.proofs.products.masked.Goals as goal

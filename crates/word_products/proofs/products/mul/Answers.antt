@@ -1,6 +1,6 @@
 use Rattle.std.proofs.Common.{◌≡◌, ◌==◌, not, Bool, length, ap, sym, subst, ◌∙◌, ◌*ℤ◌, IsTrue, ◌↔◌}
-use Rattle.kv_shape.specs.Shape.{wrap_at, InShape}
-use Rattle.kv_clause.specs.Literals.{is_true}
+use Rattle.kv_num.specs.Shape.{wrap_at, InShape}
+use Rattle.sat_clause.specs.Literals.{is_true}
 use Rattle.word_sums.specs.Words.{number, word_value}
 use Rattle.word_sums.proofs.Growth.{Grows-trans}
 use Rattle.word_products.proofs.Signed.{plain_value, plain_fits}

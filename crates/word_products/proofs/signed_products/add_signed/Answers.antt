@@ -1,6 +1,6 @@
 use Rattle.std.proofs.Common.{arith, ◌≡◌, ◌<◌, ◌+◌, ◌-◌, ◌*◌, ◌^◌, length, length-append, ap, ◌∙◌}
 use Rattle.kv_num.specs.Bits.{differ}
-use Rattle.kv_clause.specs.Literals.{is_true}
+use Rattle.sat_clause.specs.Literals.{is_true}
 use Rattle.word_sums.specs.Words.{bit, number}
 use Rattle.word_sums.proofs.Growth.{Grows-trans, literal_grown, word_grown, word_pushed, word_along, word_head, word_rest}
 use Rattle.word_sums.proofs.Numbers.{bit-le}

@@ -1,5 +1,5 @@
 use Rattle.std.proofs.Common.{arith, true, ◌≡◌, ◌+◌, ◌-◌, ◌^◌, length, ap, ◌∙◌, pos, ◌+ℤ◌, ◌*ℤ◌}
-use Rattle.kv_clause.specs.Literals.{is_true}
+use Rattle.sat_clause.specs.Literals.{is_true}
 use Rattle.word_sums.specs.Words.{number, word_value}
 use Rattle.word_sums.proofs.Growth.{Grows-trans}
 use Rattle.word_products.proofs.Signed.{product_value, product_fits}

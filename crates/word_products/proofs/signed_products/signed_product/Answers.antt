@@ -1,5 +1,5 @@
 use Rattle.std.proofs.Common.{arith, true, ◌≡◌, ◌+◌, ◌-◌, ◌^◌, length, take, length-take, ap, sym, ◌∙◌, pos, neg_ℤ, ◌+ℤ◌, ◌*ℤ◌}
-use Rattle.kv_clause.specs.Literals.{is_true}
+use Rattle.sat_clause.specs.Literals.{is_true}
 use Rattle.word_sums.specs.Words.{bit, number, word_value}
 use Rattle.word_sums.proofs.Growth.{word_grown, word_pushed, Grows-trans}
 use Rattle.word_sums.proofs.Numbers.{number-more, pow_next, word_value-signed}

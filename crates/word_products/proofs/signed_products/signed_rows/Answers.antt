@@ -1,6 +1,6 @@
 use Rattle.std.proofs.Common.{arith, true, ◌+◌, ◌^◌, length, take, ap, ◌∙◌, pos, ◌+ℤ◌}
 use Rattle.std.proofs.lemmas.Grind.{common_steps}
-use Rattle.kv_clause.specs.Literals.{is_true}
+use Rattle.sat_clause.specs.Literals.{is_true}
 use Rattle.word_sums.specs.Words.{bit, number, word_value}
 use Rattle.word_sums.proofs.Growth.{literal_grown, word_grown, word_pushed, Grows-trans}
 use Rattle.word_sums.proofs.Numbers.{number-more, number-take, pow_next}

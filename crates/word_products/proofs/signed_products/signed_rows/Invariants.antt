@@ -1,5 +1,5 @@
 use Rattle.std.proofs.Common.{◌≡◌, ◌^◌, ℕ, Bool, true, false, length, take, pos, ◌+ℤ◌, ◌*ℤ◌}
-use Rattle.kv_clause.specs.Literals.{is_true}
+use Rattle.sat_clause.specs.Literals.{is_true}
 use Rattle.gate_core.specs.Table.{Agrees, IsLitOf, Grows}
 use Rattle.word_sums.specs.Words.{number, word_value, IsWordOf}
 use Rattle.word_products.proofs.signed_products.signed_rows.Given as goal

@@ -1,6 +1,6 @@
 use Rattle.std.proofs.Common.{ap, ◌∙◌}
-use Rattle.kv_clause.specs.Literals.{is_true}
-use Rattle.kv_clause.proofs.Truths.{is_true-complement}
+use Rattle.sat_clause.specs.Literals.{is_true}
+use Rattle.sat_clause.proofs.Truths.{is_true-complement}
 use Rattle.word_sums.proofs.Digits.{lower_bits}
 use Rattle.word_sums.proofs.Growth.{Grows-trans}
 use Rattle.word_sums.proofs.bits.lower_bit.Goals as goal

@@ -1,6 +1,6 @@
 use Rattle.std.proofs.Common.{nat_lt, length, ap, ◌∙◌, pos, ◌+ℤ◌}
-use Rattle.kv_shape.specs.Shape.{below_at}
-use Rattle.kv_clause.specs.Literals.{is_true}
+use Rattle.kv_num.specs.Shape.{below_at}
+use Rattle.sat_clause.specs.Literals.{is_true}
 use Rattle.word_sums.specs.Words.{number, word_value}
 use Rattle.word_sums.proofs.Orders.{less_value}
 use Rattle.word_sums.proofs.compares.less.Goals as goal

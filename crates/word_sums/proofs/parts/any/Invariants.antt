@@ -1,5 +1,5 @@
 use Rattle.std.proofs.Common.{◌≡◌, ◌==◌, ◌-◌, not, ℕ, Bool, length, drop}
-use Rattle.kv_clause.specs.Literals.{is_true}
+use Rattle.sat_clause.specs.Literals.{is_true}
 use Rattle.gate_core.specs.Table.{Agrees, IsLitOf, Grows}
 use Rattle.word_sums.specs.Words.{number}
 use Rattle.word_sums.proofs.parts.any.Given as goal

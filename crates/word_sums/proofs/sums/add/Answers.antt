@@ -1,5 +1,5 @@
 use Rattle.std.proofs.Common.{length, ◌+ℤ◌}
-use Rattle.kv_clause.specs.Literals.{is_true}
+use Rattle.sat_clause.specs.Literals.{is_true}
 use Rattle.word_sums.specs.Words.{word_value}
 use Rattle.word_sums.proofs.Growth.{Grows-trans}
 use Rattle.word_sums.proofs.Totals.{plus_never, fits_never}

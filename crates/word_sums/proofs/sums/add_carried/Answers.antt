@@ -1,6 +1,6 @@
 use Rattle.std.proofs.Common.{arith, ◌<◌, ◌+◌, ◌*◌, length, ap, ◌∙◌}
 use Rattle.std.proofs.lemmas.Grind.{common_steps}
-use Rattle.kv_clause.specs.Literals.{is_true}
+use Rattle.sat_clause.specs.Literals.{is_true}
 use Rattle.word_sums.specs.Words.{bit}
 use Rattle.word_sums.proofs.Growth.{Grows-trans, literal_grown, word_grown, word_pushed, word_literal}
 use Rattle.word_sums.proofs.Totals.{sum_more}

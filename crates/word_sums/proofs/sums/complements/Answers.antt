@@ -1,6 +1,6 @@
 use Rattle.std.proofs.Common.{arith, ◌<◌, subst, sym}
 use Rattle.std.proofs.lemmas.Grind.{common_steps}
-use Rattle.kv_clause.specs.Literals.{variable_of}
+use Rattle.sat_clause.specs.Literals.{variable_of}
 use Rattle.word_sums.proofs.Growth.{complement_pushed}
 use Rattle.word_sums.proofs.Totals.{turned_more}
 use Rattle.word_sums.proofs.sums.complements.Goals as goal

@@ -1,5 +1,5 @@
 use Rattle.std.proofs.Common.{◌≡◌, ℕ, Bool, ◌+◌, ◌^◌, length, take}
-use Rattle.kv_clause.specs.Literals.{AreBelow}
+use Rattle.sat_clause.specs.Literals.{AreBelow}
 use Rattle.word_sums.specs.Words.{number}
 use Rattle.word_sums.proofs.sums.complements.Given as goal
 

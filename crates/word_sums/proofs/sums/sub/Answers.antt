@@ -1,6 +1,6 @@
 use Rattle.std.proofs.Common.{arith, ◌≡◌, ◌+◌, ◌-◌, ◌^◌, not, length, ap, ◌∙◌, sym, refl, pos, ◌+ℤ◌}
-use Rattle.kv_shape.specs.Shape.{wrap_at}
-use Rattle.kv_clause.specs.Literals.{is_true}
+use Rattle.kv_num.specs.Shape.{wrap_at}
+use Rattle.sat_clause.specs.Literals.{is_true}
 use Rattle.word_sums.specs.Words.{bit, number, word_value}
 use Rattle.word_sums.proofs.Growth.{flipped_value, Grows-trans}
 use Rattle.word_sums.proofs.Totals.{turned_value, difference_fits}

@@ -1,6 +1,6 @@
 use Rattle.std.proofs.Common.{arith, ◌≡◌, ◌+◌, ◌-◌, not, length, ap, ◌∙◌}
-use Rattle.kv_clause.specs.Literals.{is_true}
-use Rattle.kv_clause.proofs.Truths.{is_true-complement}
+use Rattle.sat_clause.specs.Literals.{is_true}
+use Rattle.sat_clause.proofs.Truths.{is_true-complement}
 use Rattle.kv_num.specs.Bits.{differ}
 use Rattle.word_sums.specs.Words.{bit}
 use Rattle.word_sums.proofs.Digits.{over_turned}

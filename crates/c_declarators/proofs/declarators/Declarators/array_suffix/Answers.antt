@@ -4,8 +4,8 @@ use Rattle.c_tree.specs.declared.expression.Declarator.TheVariants as declarator
 use Rattle.c_grammar.specs.Reader.{Gives}
 use Rattle.c_grammar.specs.ReadTypes.{Titles}
 use Rattle.c_declarators.specs.Declarators.{array_suffix}
-use Rattle.c_type_names.specs.TypeNames.{closed_size}
-use Rattle.c_marks.specs.Reads.{titled_of}
+use Rattle.c_declarators.specs.TypeNames.{closed_size}
+use Rattle.c_cursor.specs.Reads.{titled_of}
 use Rattle.c_declarators.proofs.DeclaratorSteps.{array_sized}
 use Rattle.c_declarators.proofs.declarators.Declarators.array_suffix.Goals as goal
 

@@ -1,7 +1,7 @@
 use Rattle.std.proofs.Common.{◌≡◌, ◌-◌}
 use Rattle.c_tree.specs.SpellsText.{kinds_of}
 use Rattle.c_declarators.specs.Declarators.{suffixes_at}
-use Rattle.c_marks.specs.Reads.{titled_of}
+use Rattle.c_cursor.specs.Reads.{titled_of}
 use Rattle.c_declarators.proofs.DeclaratorSteps.{further_suffixes}
 use Rattle.c_declarators.proofs.declarators.Declarators.with_suffixes.Given as goal
 

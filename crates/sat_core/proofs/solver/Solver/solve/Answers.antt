@@ -1,5 +1,5 @@
 use Rattle.std.proofs.Common.{ℕ, ◌≡◌, ◌/◌, List, Bool, length, ap, subst, ◌∙◌}
-use Rattle.kv_clause.specs.Literals.{MeetsAll, AreTrue}
+use Rattle.sat_clause.specs.Literals.{MeetsAll, AreTrue}
 use Rattle.sat_core.specs.Held.{Held}
 use Rattle.sat_core.specs.Solving.{AnswerSays}
 use Rattle.sat_core.proofs.Answering.{refuted_answer}

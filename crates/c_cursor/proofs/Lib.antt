@@ -1,0 +1,9 @@
+pub mod Changes
+pub mod Faults
+pub mod Listed
+pub mod Lists
+pub mod Plain
+pub mod Qualifies
+pub mod SameMark
+pub mod Single
+pub mod Skipped

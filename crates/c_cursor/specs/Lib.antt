@@ -1,0 +1,4 @@
+pub mod Bare
+pub mod Meanings
+pub mod Parts
+pub mod Reads

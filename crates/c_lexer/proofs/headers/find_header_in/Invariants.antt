@@ -1,8 +1,0 @@
-use Rattle.std.proofs.Common.{◌≡◌, drop}
-use Rattle.c_model.specs.Words.{lookup}
-use Rattle.c_lexer.specs.HeaderRows.{header_rows}
-use Rattle.c_lexer.proofs.headers.find_header_in.Given as goal
-
--- no row so far has the text
-abbrev pub invariant-loop-row : goal.invariant-loop-row
-invariant-loop-row l = lookup (header_rows (drop l.row-index l.table)) l.text ≡ lookup (header_rows l.table) l.text

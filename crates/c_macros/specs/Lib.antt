@@ -1,0 +1,5 @@
+pub mod HeaderRows
+pub mod Chains
+pub mod Circles
+pub mod Tables
+pub mod Nexts

@@ -1,3 +1,0 @@
-pub mod Reads
-pub mod Bare
-pub mod Parts

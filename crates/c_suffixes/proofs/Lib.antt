@@ -1,2 +1,0 @@
-pub mod Suffixed
-pub mod Gathered

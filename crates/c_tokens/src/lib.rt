@@ -1,0 +1,12 @@
+//! Tokens, data models and limits, and which tokens a text has: the definitions of reading.
+#![tactic(auto)]
+
+mod data_model;
+mod left_out;
+mod limits;
+mod token;
+
+pub use data_model::DataModel;
+pub use left_out::left_out_text;
+pub use limits::{MAX_BYTES, MAX_NAME_BYTES, MAX_TOKENS};
+pub use token::{Token, TokenKind, Tokens};

@@ -1,6 +1,0 @@
-use Rattle.std.proofs.Common.{take}
-use Rattle.kv_clause.specs.Literals.{AreBelow}
-use Rattle.kv_clause.proofs.below.are_below.Given as goal
-
-abbrev pub invariant-loop-lit : goal.invariant-loop-lit
-invariant-loop-lit l = AreBelow l.n (take l.lit-index l.lit-items)

@@ -1,5 +1,0 @@
-use Rattle.kv_clause.proofs.Counting.{spent_few}
-use Rattle.kv_clause.proofs.laws.spent_budget_is_small.Goals as goal
-
-pub returns : goal.returns
-returns c = λ n budget F log s. spent_few n F budget log s

@@ -1,0 +1,4 @@
+pub mod Distinct
+pub mod Counting
+pub mod Propagation
+pub mod Truths

@@ -1,6 +1,0 @@
-use Rattle.std.proofs.Common.{ℕ, ◌<◌, get_or}
-use Rattle.sat_engine.specs.Trail.{IsSet}
-use Rattle.sat_search.proofs.newness.is_flagged.Given as goal
-
-abbrev pub invariant-loop-m : goal.invariant-loop-m
-invariant-loop-m l = (k : ℕ) → k < l.m-index → IsSet l.flags (get_or l.clause k 0)

@@ -1,6 +1,0 @@
-use Rattle.std.proofs.Common.{ℕ, ◌<◌, get_or, []}
-use Rattle.sat_search.specs.New.{NoneFlagged}
-use Rattle.sat_search.proofs.newness.seek.Given as goal
-
-abbrev pub invariant-loop-m : goal.invariant-loop-m
-invariant-loop-m l = (k : ℕ) → k < l.m-index → NoneFlagged l.store (get_or l.index (get_or l.clause k 0) []) l.flags

@@ -1,5 +1,0 @@
-use Rattle.term_fold.proofs.Fitting.{of_type}
-use Rattle.term_fold.proofs.tests.variable.Goals as goal
-
-pub add-requires : goal.add-requires
-add-requires c = (of_type c.args.t c.of.result c.of.ensures, tt)
