@@ -3,6 +3,7 @@ use Rattle.std.proofs.Common.{◌≡◌, ℕ, ◌+◌, ◌<◌, ◌≤◌, List,
 use Rattle.c_tokens.specs.declared.token.Token.{Token}
 use Rattle.c_tokens.specs.declared.token.TokenKind.{TokenKind}
 use Rattle.c_tokens.specs.declared.data_model.DataModel.TheVariants.{Lp64}
+use Rattle.c_model.specs.declared.program.BlockItem.{BlockItem}
 use Rattle.c_model.specs.declared.program.Program.{Program}
 use Rattle.c_tokens.specs.Reading.{Fault, Reading, Read, Fails, reading}
 use Rattle.c_tree.specs.declared.declaration.Tree.{Tree}
@@ -11,7 +12,7 @@ use Rattle.c_tree.specs.SpellsText.{kinds_of, Spells}
 use Rattle.c_grammar_laws.specs.Laws.{OneTree}
 use Rattle.c_nesting.specs.declared.nesting.TheConstants.{LIMIT}
 use Rattle.c_parser.specs.Parses.{left_out, IsFirstTooDeep, IsWithin}
-use Rattle.c_straight.specs.Straight.{IsStraight}
+use Rattle.c_straight.specs.Straight.{IsStraight, items_of}
 use Rattle.c_source.specs.declared.refusal.Refusal.{Refusal}
 use Rattle.c_source.specs.declared.refusal.Refusal.TheVariants.{TooLong, NoToken, Directive, LongConstant, TooManyTokens, LeftOut, TooDeep, Syntax, NotYet}
 use Rattle.c_source.specs.Sources.{HasTokens, FailsWith, HasTree, Early, Refuses}
@@ -60,3 +61,14 @@ spells_or_refuses_lem one source program (TooDeep line) early r =
 spells_or_refuses_lem one source program (Syntax line) early r = r.no_tree early.tree (spelled_of source early.tokens early.tree r.tokens early.has r.has)
 spells_or_refuses_lem one source program NotYet early r =
     r.not_straight program (straight_of source early.tokens early.tree r.tokens r.tree program one early.has early.straight r.has)
+
+-- what is found is the items of both
+same_program : (one other : Program) (found : Option (List BlockItem)) → found ≡ Some one.items → found ≡ Some other.items → one ≡ other
+same_program one other found e f =
+    let items : one.items ≡ other.items = cc in
+    ap (λ (xs : List BlockItem). record { items = xs }) items
+
+pub one_program_lem : OneTree → (source : List ℕ) (one other : Program) → Early source one → Early source other → one ≡ other
+one_program_lem law source one other a b =
+    let there : IsStraight b.tokens b.tree one = straight_of source a.tokens a.tree b.tokens b.tree one law a.has a.straight b.has in
+    same_program one other (items_of b.tokens b.tree.externals) there.items b.straight.items

@@ -121,6 +121,10 @@ Refuses source (TooDeep line) = IsTooDeep source line
 Refuses source (Syntax line) = IsNoSyntax source line
 Refuses source NotYet = IsNotYet source
 
--- no bytes spell a straight program and are refused, and none spell two straight programs
+-- no bytes spell a straight program and are refused
 abbrev pub SpellsOrRefuses : Type 0
 SpellsOrRefuses = (source : List ℕ) (program : Program) (refusal : Refusal) → Early source program → Refuses source refusal → ⊥
+
+-- no bytes spell two straight programs
+abbrev pub OneProgram : Type 0
+OneProgram = (source : List ℕ) (one other : Program) → Early source one → Early source other → one ≡ other

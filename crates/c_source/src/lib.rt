@@ -7,5 +7,5 @@ mod refusal;
 mod words;
 
 pub use c_lexer::MAX_BYTES;
-pub use reading::{Unread, read_source, spells_or_refuses};
+pub use reading::{Unread, one_program, read_source, spells_or_refuses};
 pub use refusal::Refusal;

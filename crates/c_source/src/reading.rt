@@ -2,7 +2,7 @@ ghost use Rattle.std.specs.Prelude.{◌≡◌, ◌≤◌, length};
 ghost use Rattle.std.specs.Prelude.{MatchResult};
 ghost use Rattle.c_tree.specs.SpellsText.{Spells};
 ghost use Rattle.c_parser.specs.Parses.{IsWithin};
-ghost use Rattle.c_source.specs.Sources.{Early, HasTokens, SpellsOrRefuses};
+ghost use Rattle.c_source.specs.Sources.{Early, HasTokens, OneProgram, SpellsOrRefuses};
 ghost use Rattle.c_source.specs.Causes.{IsCause, IsCauseBehind};
 
 use crate::Refusal;
@@ -116,6 +116,14 @@ pub fn read_source(alloc: Global, source: &[u8]) -> Result<Program, Unread>
 /// No bytes spell a straight program and are refused.
 pub fn spells_or_refuses()
     ensures { SpellsOrRefuses }
+{
+    // The law says that tokens spell one tree at most.
+    one_tree();
+}
+
+/// No bytes spell two straight programs.
+pub fn one_program()
+    ensures { OneProgram }
 {
     // The law says that tokens spell one tree at most.
     one_tree();
