@@ -66,7 +66,7 @@ module _ (T : Template) where
       (one_below (vars_of T 2) (map complement_of (bounds_at T bs 1)) (complements_below (vars_of T 2) (bounds_at T bs 1) (bounds_at_below bs 1)))
 
   -- one block has the template's variables, and more blocks have more
-  first_below : (k : ℕ) (F : List (List ℕ)) → 1 ≤ k → ClausesAreBelow T.vars F → ClausesAreBelow (vars_of T k) F
+  pub first_below : (k : ℕ) (F : List (List ℕ)) → 1 ≤ k → ClausesAreBelow T.vars F → ClausesAreBelow (vars_of T k) F
   first_below k F some h = let room = T.room in let more = vars_more 1 k some in more_below T T.vars (vars_of T k) F (omega arith) h
 
   beginning_below : (q : Query) → ClausesAreBelow T.vars (beginning_of T q)

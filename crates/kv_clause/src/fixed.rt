@@ -52,7 +52,8 @@ pub fn fixed_clauses<B: Blocks>(alloc: Global, blocks: &mut B, q: &Query) -> Res
     Ok(Cnf { vars, clauses })
 }
 
-fn vars_of_blocks(t: &Template, k: u32) -> u64
+/// How many variables the first `k` blocks have, at most 256 of them.
+pub fn vars_of_blocks(t: &Template, k: u32) -> u64
     requires { k ≤ 256 }
     ensures { result ≡ vars_of t.now k }
 {

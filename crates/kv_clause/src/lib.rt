@@ -20,7 +20,7 @@ pub use below::{bounds_are_below, sites_are_below};
 pub use block::{Block, shift};
 pub use blocks::Blocks;
 pub use bound::{Bound, BoundLit, BoundLits, Bounds};
-pub use fixed::{fixed_clauses, query_clauses};
+pub use fixed::{fixed_clauses, query_clauses, vars_of_blocks};
 pub use plain::PlainBlocks;
 pub use query::Query;
 pub use sat_clause::{

@@ -2,7 +2,7 @@
 use Rattle.std.proofs.Common.{ℕ, ◌≡◌, ◌<◌, ◌≤◌, ◌++◌, List, [], ◌∷◌, length, true, sym, ap, subst, ◌∙◌, arith}
 use Rattle.std.proofs.lemmas.List.{length_push}
 use Rattle.sat_clause.specs.Propagation.{Conflict}
-use Rattle.sat_engine.specs.declared.trail.Step.{Step}
+use Rattle.sat_engine.specs.declared.trail.SetLiteral.{SetLiteral}
 use Rattle.sat_engine.specs.Look.{InRange, AreInRange}
 use Rattle.sat_engine.specs.Grow.{Grows}
 use Rattle.proof_checker.specs.Base.{IsBase}
@@ -16,7 +16,7 @@ pub IsReady-wider : (p q : Parts) → q.store ≡ p.store → q.trail.steps.item
 IsReady-wider p q s t le r h = record {
   few = subst (λ (F : List (List ℕ)). length F < 4294967296) (sym s) h.few;
   range = subst (λ (F : List (List ℕ)). AreInRange F (length q.trail.truth.items)) (sym s) (AreInRange-wider p.store (length p.trail.truth.items) (length q.trail.truth.items) le h.range);
-  base = subst (λ (F : List (List ℕ)). IsBase F [] q.trail.steps.items) (sym s) (subst (λ (x : List Step). IsBase p.store [] x) (sym t) h.base);
+  base = subst (λ (F : List (List ℕ)). IsBase F [] q.trail.steps.items) (sym s) (subst (λ (x : List SetLiteral). IsBase p.store [] x) (sym t) h.base);
   refuted = λ e. subst (λ (F : List (List ℕ)). Conflict F []) (sym s) (h.refuted (sym r ∙ e));
 }
 
@@ -37,7 +37,7 @@ IsReady-push p q c s t r few room h =
     record {
       few = subst (λ (F : List (List ℕ)). length F < 4294967296) (sym s) (omega (arith, few, length_push p.store c));
       range = subst (λ (F : List (List ℕ)). AreInRange F (length q.trail.truth.items)) (sym s) (subst (λ (x : ℕ). AreInRange (p.store ++ c ∷ []) x) (sym size) (AreInRange-push p.store c (length p.trail.truth.items) h.range room));
-      base = subst (λ (F : List (List ℕ)). IsBase F [] q.trail.steps.items) (sym s) (subst (λ (x : List Step). IsBase (p.store ++ c ∷ []) [] x) (sym same) (IsBase-more p.store c [] p.trail.steps.items h.base));
+      base = subst (λ (F : List (List ℕ)). IsBase F [] q.trail.steps.items) (sym s) (subst (λ (x : List SetLiteral). IsBase (p.store ++ c ∷ []) [] x) (sym same) (IsBase-more p.store c [] p.trail.steps.items h.base));
       refuted = λ e. subst (λ (F : List (List ℕ)). Conflict F []) (sym s) (Conflict-push p.store c (h.refuted (sym r ∙ e)));
     }
 
@@ -49,6 +49,6 @@ IsReady-same p q s t r h =
     record {
       few = subst (λ (F : List (List ℕ)). length F < 4294967296) (sym s) h.few;
       range = subst (λ (F : List (List ℕ)). AreInRange F (length q.trail.truth.items)) (sym s) (subst (λ (x : ℕ). AreInRange p.store x) (sym size) h.range);
-      base = subst (λ (F : List (List ℕ)). IsBase F [] q.trail.steps.items) (sym s) (subst (λ (x : List Step). IsBase p.store [] x) (sym same) h.base);
+      base = subst (λ (F : List (List ℕ)). IsBase F [] q.trail.steps.items) (sym s) (subst (λ (x : List SetLiteral). IsBase p.store [] x) (sym same) h.base);
       refuted = λ e. subst (λ (F : List (List ℕ)). Conflict F []) (sym s) (r e);
     }

@@ -10,7 +10,7 @@ use crate::refute::refute;
 use crate::scan::{Class, classify};
 use crate::tiers::{Origin, Tiers};
 use kv_base::NoMemory;
-use sat_engine::{Reason, Store, Trail, open_pair};
+use sat_engine::{Reason, Store, Trail, open_pair, room_for};
 use std::alloc::Global;
 
 /// What the checker works on: the clauses, the literals that follow from them alone, the tiers, and whether the
@@ -36,21 +36,6 @@ pub fn empty(alloc: Global) -> Parts
     }
 }
 
-/// Makes room for the literal's variable.
-fn widen(alloc: Global, parts: &mut Parts, lit: u32) -> Result<(), NoMemory>
-    requires { IsReady parts.old }
-    ensures ready { OnOk result (IsReady parts.new) }
-    ensures store { OnOk result (parts.new.store ≡ parts.old.store) }
-    ensures wider { OnOk result (length parts.old.trail.truth.items ≤ length parts.new.trail.truth.items) }
-    ensures room { OnOk result (lit < length parts.new.trail.truth.items) }
-{
-    'rooms: while parts.trail.truth.len() <= lit as usize {
-        parts.trail.widen()?;
-        parts.tiers.widen(alloc)?;
-    }
-    Ok(())
-}
-
 /// Makes room for the variables of the literals.
 pub fn fit(alloc: Global, parts: &mut Parts, lits: &[u32]) -> Result<(), NoMemory>
     requires { IsReady parts.old }
@@ -58,8 +43,10 @@ pub fn fit(alloc: Global, parts: &mut Parts, lits: &[u32]) -> Result<(), NoMemor
     ensures store { OnOk result (parts.new.store ≡ parts.old.store) }
     ensures room { OnOk result (InRange lits.now (length parts.new.trail.truth.items)) }
 {
-    for lit in lits {
-        widen(alloc, parts, *lit)?;
+    let room = room_for(lits, parts.trail.truth.len());
+    'rooms: while parts.trail.truth.len() < room {
+        parts.trail.widen()?;
+        parts.tiers.widen(alloc)?;
     }
     Ok(())
 }

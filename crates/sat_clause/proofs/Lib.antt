@@ -1,4 +1,5 @@
 pub mod Distinct
 pub mod Counting
 pub mod Propagation
+pub mod Sets
 pub mod Truths

@@ -5,6 +5,7 @@ use Rattle.std.proofs.lemmas.Bool.{cases_eq, cases_Bool}
 use Rattle.std.proofs.lemmas.List.{length-append, length-map, get_or_append_left, get_or_default, get_or-map}
 use Rattle.sat_clause.specs.Literals.{complement_of, is_true, clause_holds, MeetsAll}
 use Rattle.sat_clause.specs.Propagation.{clause_at, Derived, given, unit, Conflict, Refuted, Follows}
+use Rattle.sat_clause.specs.Sets.{HasAll}
 use Rattle.sat_clause.proofs.Truths.{complement_twice, both_true, is_true-complement, true_literal, holds-from_literal, met_at}
 
 abbrev AllTrue : (ℕ → Bool) → List ℕ → Type 0
@@ -60,9 +61,6 @@ Follows-sound A F c all f = elim (cases_Bool (clause_holds A c)) [
     refused off (inr h) = not_both (is_true A (complement_of h.0)) (is_true-complement A h.0 ∙ ap not (all_off off h.0 h.1)) (all_off off (complement_of h.0) h.2)
 
 -- more clauses, and more literals, keep what propagation sets true
-abbrev HasAll : List (List ℕ) → List (List ℕ) → Type 0
-HasAll G F = (i : ℕ) → i < length F → (j : ℕ) × (j < length G) × (clause_at G j ≡ clause_at F i)
-
 pub Derived-more : (F G : List (List ℕ)) (ks ls : List ℕ) → HasAll G F → ((l : ℕ) → Contains ks l → Contains ls l) → (l : ℕ) → Derived F ks l → Derived G ls l
 Derived-more F G ks ls sup sub _ (given l h) = given l (sub l h)
 Derived-more F G ks ls sup sub _ (unit l i lt has others) =

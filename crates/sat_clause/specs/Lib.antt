@@ -1,2 +1,3 @@
 pub mod Literals
 pub mod Propagation
+pub mod Sets

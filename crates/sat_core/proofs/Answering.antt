@@ -9,7 +9,7 @@ use Rattle.sat_clause.specs.Propagation.{clause_at, Conflict, Refuted}
 use Rattle.sat_clause.proofs.Truths.{holds-from_literal, true_each, met_at, met-from_each}
 use Rattle.sat_clause.proofs.Propagation.{Conflict-more, Follows-sound, Refuted-sound}
 use Rattle.sat_engine.specs.Trail.{IsSet, IsTrail}
-use Rattle.sat_engine.specs.declared.trail.Step.{Step}
+use Rattle.sat_engine.specs.declared.trail.SetLiteral.{SetLiteral}
 use Rattle.sat_search.specs.State.{IsNew as IsNewOf}
 use Rattle.sat_search.specs.Turn.{HasTrue}
 use Rattle.sat_search.proofs.Analyses.{apart}
@@ -17,8 +17,8 @@ use Rattle.sat_search.specs.declared.parts.Parts.{Parts}
 use Rattle.sat_core.specs.declared.find.Found.{Found}
 use Rattle.sat_core.specs.declared.find.Found.TheVariants.{Sat as Met, Unsat as Refutes, Spent as Ended, Stopped as Halted}
 use Rattle.sat_core.specs.declared.solver.Answer.{Answer}
-use Rattle.sat_core.specs.Finding.{IsGrown, FoundSays, TellsTruth, YesSays as FindYes}
-use Rattle.sat_core.specs.Solving.{IsNew, IsLearnt, IsMet, IsAnswer, AnswerSays, YesSays}
+use Rattle.sat_core.specs.Finding.{IsGrown, FoundSays, TellsTruth, is_stopped as stopped_search}
+use Rattle.sat_core.specs.Solving.{IsNew, IsLearnt, IsMet, IsAnswer, AnswerSays, is_stopped}
 use Rattle.sat_core.proofs.Rooms.{AreBelow-range, ClausesAreBelow-range}
 
 new_one : (n size : ℕ) (F : List (List ℕ)) (c : List ℕ) → size ≤ 2 * n → IsNewOf F size c → IsNew n F c
@@ -59,7 +59,7 @@ pub none_meets : (n : ℕ) (F G : List (List ℕ)) (assumed : List ℕ) → IsLe
 none_meets n F G assumed l r A m t = Refuted-sound A G assumed (learnt_met n F G A l m) (true_each A assumed t) r
 
 -- a literal that is set is true
-module _ (steps : List Step) (truth : List Bool) (place : List ℕ) (t : IsTrail steps truth place) (a : List Bool) (h : TellsTruth truth a) where
+module _ (steps : List SetLiteral) (truth : List Bool) (place : List ℕ) (t : IsTrail steps truth place) (a : List Bool) (h : TellsTruth truth a) where
   within : (l : ℕ) → IsSet truth l → l < length truth
   within l s = elim (cases_lt l (length truth)) [
     | inl lt ↦ lt
@@ -118,11 +118,12 @@ answer_says n A p q F G budget Ended answer ef eg en l f h =
 answer_says n A p q F G budget Halted answer ef eg en l f h =
     subst (λ (x : Answer). AnswerSays n F G A budget x) (sym h) tt
 
-pub yes_says : (before now : ℕ) (truth : List Bool) (found : Found) (answer : Answer) → IsAnswer truth found answer → FindYes before now found → YesSays before now answer
-yes_says before now truth Met answer h y = subst (λ (x : Answer). YesSays before now x) (sym h.1) y
-yes_says before now truth Refutes answer h y = subst (λ (x : Answer). YesSays before now x) (sym h) y
-yes_says before now truth Ended answer h y = subst (λ (x : Answer). YesSays before now x) (sym h) y
-yes_says before now truth Halted answer h y = subst (λ (x : Answer). YesSays before now x) (sym h) y
+-- a search that was stopped gives the answer that says so
+pub stopped_same : (truth : List Bool) (found : Found) (answer : Answer) → IsAnswer truth found answer → stopped_search found ≡ is_stopped answer
+stopped_same truth Met answer h = ap is_stopped (sym h.1)
+stopped_same truth Refutes answer h = ap is_stopped (sym h)
+stopped_same truth Ended answer h = ap is_stopped (sym h)
+stopped_same truth Halted answer h = ap is_stopped (sym h)
 
 -- clauses that are refuted already
 pub refuted_answer : (F : List (List ℕ)) (assumed : List ℕ) → Conflict F [] → Refuted F assumed × ((A : ℕ → Bool) → MeetsAll A F → AreTrue A assumed → ⊥)

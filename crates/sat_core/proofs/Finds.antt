@@ -9,7 +9,7 @@ use Rattle.sat_search.specs.Rank.{rank}
 use Rattle.sat_search.proofs.Ranks.{rank-le}
 use Rattle.sat_engine.specs.Look.{InRange}
 use Rattle.sat_clause.specs.Propagation.{Includes}
-use Rattle.sat_engine.specs.declared.trail.Step.{Step}
+use Rattle.sat_engine.specs.declared.trail.SetLiteral.{SetLiteral}
 use Rattle.sat_engine.proofs.Trails.{IsTrail-length}
 use Rattle.sat_search.specs.declared.parts.Parts.{Parts}
 use Rattle.sat_search.specs.declared.turn.Turn.TheVariants.{Learnt, Moved}
@@ -98,7 +98,7 @@ smaller_learnt A F n v m q e g size h =
     let lg = g.longer in
     let b = IsTrail-length q.trail.steps.items q.trail.truth.items q.trail.place.items q.trail.ok in
     let sz = h.1 in
-    let wl : length (word q.trail.steps.items) ≡ length q.trail.steps.items = length-map q.trail.steps.items (λ (s : Step). is_choice s.reason) in
+    let wl : length (word q.trail.steps.items) ≡ length q.trail.steps.items = length-map q.trail.steps.items (λ (s : SetLiteral). is_choice s.reason) in
     let len : length q.store ≡ length m.store + 1 = t.1 in
     subst (λ (x : ℕ). left v (length F) x (word q.trail.steps.items) < left v (length F) (length m.store) (word m.trail.steps.items)) (sym len)
     (left-learnt v (length F) (length m.store) (word m.trail.steps.items) (word q.trail.steps.items) lg (omega arith) (omega arith))

@@ -8,7 +8,7 @@ use Rattle.sat_clause.specs.Propagation.{clause_at, Derived, Conflict}
 use Rattle.sat_clause.proofs.Propagation.{Conflict-more, HasAll-append}
 use Rattle.sat_engine.specs.declared.trail.Reason.{Reason}
 use Rattle.sat_engine.specs.declared.trail.Reason.TheVariants.{Free, Assumed, Clause}
-use Rattle.sat_engine.specs.declared.trail.Step.{Step}
+use Rattle.sat_engine.specs.declared.trail.SetLiteral.{SetLiteral}
 use Rattle.sat_engine.specs.Trail.{IsSet, IsReason, reason_at}
 use Rattle.sat_engine.specs.Look.{AreInRange, AreFalse}
 use Rattle.sat_engine.specs.Grow.{IsImplied, Grows}
@@ -19,13 +19,13 @@ use Rattle.sat_search.specs.State.{is_choice, IsState, IsReady}
 use Rattle.sat_search.proofs.States.{IsState-cut, IsState-grow, IsState-advance}
 use Rattle.sat_core.specs.Finding.{IsIdle}
 
-clause_reason : (F : List (List ℕ)) (A B : List ℕ) (steps : List Step) (i : ℕ) (r : Reason) → is_choice r ≡ false → IsReason F A steps i r → IsReason F B steps i r
+clause_reason : (F : List (List ℕ)) (A B : List ℕ) (steps : List SetLiteral) (i : ℕ) (r : Reason) → is_choice r ≡ false → IsReason F A steps i r → IsReason F B steps i r
 clause_reason F A B steps i Free e h = absurd (false≢true (sym e))
 clause_reason F A B steps i Assumed e h = absurd (false≢true (sym e))
 clause_reason F A B steps i (Clause n) e h = h
 
 -- such a trail stands under any assumptions
-pub IsState-idle : (F : List (List ℕ)) (A B : List ℕ) (steps : List Step) (start : ℕ) → IsState F A steps start → length steps ≡ start → IsState F B steps start
+pub IsState-idle : (F : List (List ℕ)) (A B : List ℕ) (steps : List SetLiteral) (start : ℕ) → IsState F A steps start → length steps ≡ start → IsState F B steps start
 IsState-idle F A B steps start s e = record {
   early = s.early;
   facts = s.facts;
@@ -49,19 +49,19 @@ IsReady-idle A p h = let r = h.ready in record {
 }
 
 -- what stands before the start, once all else is unset
-pub IsState-retreat : (F : List (List ℕ)) (A : List ℕ) (old new : List Step) (start : ℕ) → IsState F A old start → new ≡ take start old → IsState F [] new start
+pub IsState-retreat : (F : List (List ℕ)) (A : List ℕ) (old new : List SetLiteral) (start : ℕ) → IsState F A old start → new ≡ take start old → IsState F [] new start
 IsState-retreat F A old new start s e =
     let le = s.early in
-    let cut : IsState F A new start = subst (λ (x : List Step). IsState F A x start) (sym e) (IsState-cut F A old start start s (omega arith) s.early) in
+    let cut : IsState F A new start = subst (λ (x : List SetLiteral). IsState F A x start) (sym e) (IsState-cut F A old start start s (omega arith) s.early) in
     IsState-idle F A [] new start cut (ap length e ∙ length-take-le start old s.early)
 
-no_choice : (F : List (List ℕ)) (steps : List Step) (i : ℕ) (r : Reason) → IsImplied F steps i r → is_choice r ≡ false
+no_choice : (F : List (List ℕ)) (steps : List SetLiteral) (i : ℕ) (r : Reason) → IsImplied F steps i r → is_choice r ≡ false
 no_choice F steps i Free h = absurd h
 no_choice F steps i Assumed h = absurd h
 no_choice F steps i (Clause n) h = refl
 
 -- further literals that follow
-pub IsState-settled : (F : List (List ℕ)) (old new : List Step) (start : ℕ) → IsState F [] old start → length old ≡ start → Grows F old new → IsState F [] new (length new)
+pub IsState-settled : (F : List (List ℕ)) (old new : List SetLiteral) (start : ℕ) → IsState F [] old start → length old ≡ start → Grows F old new → IsState F [] new (length new)
 IsState-settled F old new start s e g =
     IsState-advance F [] new start (length new) (IsState-grow F [] old new start g s) (omega arith) (λ i lo hi. no_choice F new i (reason_at new i) (g.implied i (omega arith) hi))
 

@@ -7,7 +7,6 @@ use Rattle.sat_engine.specs.Look.{InRange}
 use Rattle.sat_search.specs.declared.parts.Parts.{Parts}
 use Rattle.sat_search.specs.State.{IsReady, IsNew}
 use Rattle.sat_search.specs.Turn.{HasTrue}
-use Rattle.sat_core.specs.Counts.{raised}
 use Rattle.sat_core.specs.declared.find.Found.{Found}
 use Rattle.sat_core.specs.declared.find.Found.TheVariants.{Sat, Unsat, Spent, Stopped}
 
@@ -39,20 +38,13 @@ pub record IsIdle (p : Parts) : Type 0 where
 abbrev pub IsKept : Parts → Bool → Type 0
 IsKept p refuted = (refuted ≡ true → Conflict p.store []) × (refuted ≡ false → IsIdle p)
 
--- the poll said yes exactly where the search was stopped
-abbrev pub YesSays : ℕ → ℕ → Found → Type 0
-YesSays before now Stopped = now ≡ raised before
-YesSays before now Sat = now ≡ before
-YesSays before now Unsat = now ≡ before
-YesSays before now Spent = now ≡ before
+abbrev pub is_stopped : Found → Bool
+is_stopped Stopped = true
+is_stopped Sat = false
+is_stopped Unsat = false
+is_stopped Spent = false
 
--- there is room for a literal, and for no more variables than that needs
-pub record HasRoom (lit old new : ℕ) : Type 0 where
-  pub longer : old ≤ new
-  pub room : lit < new
-  pub least : (m : ℕ) → old ≤ 2 * m → lit < 2 * m → new ≤ 2 * m
-
--- the same of several literals
+-- there is room for literals, and for no more variables than they need
 pub record AreWider (lits : List ℕ) (old new : ℕ) : Type 0 where
   pub longer : old ≤ new
   pub room : InRange lits new

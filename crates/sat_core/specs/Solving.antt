@@ -1,8 +1,7 @@
 -- What a call of a solver learns, and what its answer says.
-use Rattle.std.specs.Prelude.{ℕ, ◌≡◌, ◌+◌, ◌<◌, ◌≤◌, ◌++◌, List, length, drop, take, Bool}
+use Rattle.std.specs.Prelude.{ℕ, ◌≡◌, ◌+◌, ◌<◌, ◌≤◌, ◌++◌, List, length, drop, take, Bool, true, false}
 use Rattle.sat_clause.specs.Literals.{AreBelow, ClausesAreBelow, MeetsAll, AreTrue, truths}
 use Rattle.sat_clause.specs.Propagation.{clause_at, Follows, Refuted, IncludesNone, IsProper}
-use Rattle.sat_core.specs.Counts.{raised}
 use Rattle.sat_core.specs.Finding.{TellsTruth}
 use Rattle.sat_core.specs.Held.{Held}
 use Rattle.sat_core.specs.declared.find.Found.{Found}
@@ -47,12 +46,11 @@ AnswerSays n F G assumed budget Unsat = Refuted G assumed × ((A : ℕ → Bool)
 AnswerSays n F G assumed budget Spent = (0 < budget) × (length G ≡ length F + budget)
 AnswerSays n F G assumed budget Stopped = Unit {0}
 
--- the poll said yes exactly where the answer is Stopped
-abbrev pub YesSays : ℕ → ℕ → Answer → Type 0
-YesSays before now Stopped = now ≡ raised before
-YesSays before now (Sat a) = now ≡ before
-YesSays before now Unsat = now ≡ before
-YesSays before now Spent = now ≡ before
+abbrev pub is_stopped : Answer → Bool
+is_stopped Stopped = true
+is_stopped (Sat a) = false
+is_stopped Unsat = false
+is_stopped Spent = false
 
 -- the answer for what a search found
 abbrev pub IsAnswer : List Bool → Found → Answer → Type 0

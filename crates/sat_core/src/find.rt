@@ -1,8 +1,8 @@
 ghost use Rattle.std.specs.Prelude.{◌≡◌, ◌≢◌, Bool, true, false, ℕ, ◌+◌, ◌-◌, ◌<◌, ◌≤◌, length, IfOk, OnOk};
 ghost use Rattle.sat_engine.specs.Look.{InRange};
 ghost use Rattle.sat_search.specs.State.{IsReady};
-ghost use Rattle.sat_core.specs.Counts.{raised, raised_by};
-ghost use Rattle.sat_core.specs.Finding.{FoundSays, YesSays};
+ghost use Rattle.sat_core.specs.Finding.{FoundSays, is_stopped};
+ghost use Rattle.sat_core.specs.Polling.{StaysReady, WasAsked};
 
 use crate::poll::Poll;
 use kv_base::NoMemory;
@@ -51,10 +51,8 @@ pub fn find<P: Poll>(
     requires assumed { InRange assumed.now (length parts.old.trail.truth.items) }
     requires poll { P.ready poll.old }
     ensures says { IfOk result (λ found. FoundSays assumed.now parts.old parts.new budget found) }
-    ensures poll { P.ready poll.new }
-    ensures held { P.held poll.new ≡ P.held poll.old }
-    ensures asks { OnOk result (raised_by (length parts.new.store - length parts.old.store) (P.asks poll.old) ≤ P.asks poll.new) }
-    ensures yeses { IfOk result (λ found. YesSays (P.yeses poll.old) (P.yeses poll.new) found) }
+    ensures poll { StaysReady P.ready P.held poll.old poll.new }
+    ensures asked { IfOk result (λ found. WasAsked P.asks P.yeses poll.old poll.new (length parts.new.store - length parts.old.store) (is_stopped found)) }
 {
     let mut learnt = 0;
     let mut from = 0;

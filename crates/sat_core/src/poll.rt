@@ -34,7 +34,9 @@ pub struct NeverPoll {
 
 impl NeverPoll {
     /// Not asked yet.
-    pub fn new() -> NeverPoll {
+    pub fn new() -> NeverPoll
+        ensures { result ≡ record { asks = 0 } }
+    {
         NeverPoll { asks: 0 }
     }
 }
@@ -50,7 +52,10 @@ impl Poll for NeverPoll {
 
     ghost yeses = { λ _. 0 };
 
-    fn stop(&mut self) -> bool {
+    fn stop(&mut self) -> bool
+        ensures asks { self.new.asks ≡ raised self.old.asks }
+        ensures never { IsFalse result }
+    {
         self.asks = self.asks.saturating_add(1);
         false
     }

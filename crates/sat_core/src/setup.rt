@@ -2,10 +2,10 @@ ghost use Rattle.std.specs.Prelude.{◌≡◌, ℕ, ◌+◌, ◌*◌, ◌<◌, �
 ghost use Rattle.sat_clause.specs.Propagation.{clause_at};
 ghost use Rattle.sat_engine.specs.Look.{InRange};
 ghost use Rattle.sat_search.specs.State.{IsReady};
-ghost use Rattle.sat_core.specs.Finding.{IsIdle, IsKept, HasRoom, AreWider};
+ghost use Rattle.sat_core.specs.Finding.{IsIdle, IsKept, AreWider};
 
 use kv_base::NoMemory;
-use sat_engine::{Seen, Store, Trail, Watches, imply, look_at, open_pair};
+use sat_engine::{Seen, Store, Trail, Watches, imply, look_at, open_pair, room_for};
 use sat_index::{Index, record_clause};
 use sat_search::{Guide, Parts, rewind};
 use std::alloc::Global;
@@ -51,19 +51,6 @@ fn widen(alloc: Global, parts: &mut Parts) -> Result<(), NoMemory>
     Ok(())
 }
 
-/// Makes room for a literal's variable.
-fn fit_one(alloc: Global, parts: &mut Parts, lit: u32) -> Result<(), NoMemory>
-    requires idle { IsIdle parts.old }
-    ensures idle { OnOk result (IsIdle parts.new) }
-    ensures store { OnOk result (parts.new.store ≡ parts.old.store) }
-    ensures room { OnOk result (HasRoom lit (length parts.old.trail.truth.items) (length parts.new.trail.truth.items)) }
-{
-    'rooms: while parts.trail.truth.len() <= lit as usize {
-        widen(alloc, parts)?;
-    }
-    Ok(())
-}
-
 /// Makes room for the variables of the literals.
 pub fn fit(alloc: Global, parts: &mut Parts, lits: &[u32]) -> Result<(), NoMemory>
     requires idle { IsIdle parts.old }
@@ -71,8 +58,9 @@ pub fn fit(alloc: Global, parts: &mut Parts, lits: &[u32]) -> Result<(), NoMemor
     ensures store { OnOk result (parts.new.store ≡ parts.old.store) }
     ensures wider { OnOk result (AreWider lits.now (length parts.old.trail.truth.items) (length parts.new.trail.truth.items)) }
 {
-    for lit in lits {
-        fit_one(alloc, parts, *lit)?;
+    let room = room_for(lits, parts.trail.truth.len());
+    'rooms: while parts.trail.truth.len() < room {
+        widen(alloc, parts)?;
     }
     Ok(())
 }

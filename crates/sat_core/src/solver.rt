@@ -1,9 +1,9 @@
 ghost use Rattle.std.specs.Prelude.{ℕ, ◌≡◌, ◌+◌, ◌-◌, ◌/◌, ◌<◌, ◌≤◌, ◌++◌, ◌∷◌, [], List, length, drop, true, false, IsErr, IfOk, OnOk, OnErr};
 ghost use Rattle.sat_clause.specs.Literals.{AreBelow};
 ghost use Rattle.sat_engine.specs.Look.{InRange};
-ghost use Rattle.sat_core.specs.Counts.{raised_by};
 ghost use Rattle.sat_core.specs.Finding.{IsIdle, IsKept};
-ghost use Rattle.sat_core.specs.Solving.{Learns, IsAnswer, IsLearnt, IsRoom, AnswerSays, YesSays};
+ghost use Rattle.sat_core.specs.Solving.{Learns, IsAnswer, IsLearnt, IsRoom, AnswerSays, is_stopped};
+ghost use Rattle.sat_core.specs.Polling.{StaysReady, WasAsked};
 
 use crate::assignment::assignment;
 use crate::find::{Found, find};
@@ -81,10 +81,8 @@ fn search<P: Poll>(
     ensures learnt { OnOk result (IsLearnt (length parts.new.trail.truth.items / 2) parts.old.store parts.new.store) }
     ensures within { OnOk result (0 < budget → length parts.new.store ≤ length parts.old.store + budget) }
     ensures answer { IfOk result (λ answer. AnswerSays (length parts.new.trail.truth.items / 2) parts.old.store parts.new.store assumed.now budget answer) }
-    ensures poll { P.ready poll.new }
-    ensures held { P.held poll.new ≡ P.held poll.old }
-    ensures asks { OnOk result (raised_by (length parts.new.store - length parts.old.store) (P.asks poll.old) ≤ P.asks poll.new) }
-    ensures yeses { IfOk result (λ answer. YesSays (P.yeses poll.old) (P.yeses poll.new) answer) }
+    ensures poll { StaysReady P.ready P.held poll.old poll.new }
+    ensures asked { IfOk result (λ answer. WasAsked P.asks P.yeses poll.old poll.new (length parts.new.store - length parts.old.store) (is_stopped answer)) }
 {
     fit(alloc, parts, assumed)?;
     let found = find(alloc, parts, assumed, budget, poll)?;
@@ -185,10 +183,8 @@ impl Solver {
         ensures working { OnOk result (self.new.refused ≡ false) }
         ensures broken { OnErr result (self.new.refused ≡ true) }
         ensures refused { self.old.refused ≡ true → IsErr result }
-        ensures poll { P.ready poll.new }
-        ensures held { P.held poll.new ≡ P.held poll.old }
-        ensures asks { OnOk result (raised_by (length self.new.clauses - length self.old.clauses) (P.asks poll.old) ≤ P.asks poll.new) }
-        ensures yeses { IfOk result (λ answer. YesSays (P.yeses poll.old) (P.yeses poll.new) answer) }
+        ensures poll { StaysReady P.ready P.held poll.old poll.new }
+        ensures asked { IfOk result (λ answer. WasAsked P.asks P.yeses poll.old poll.new (length self.new.clauses - length self.old.clauses) (is_stopped answer)) }
     {
         if self.is_refused {
             return Err(NoMemory);

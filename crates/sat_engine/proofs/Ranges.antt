@@ -6,7 +6,7 @@ use Rattle.std.proofs.lemmas.List.{length_push, get_or_append_left, get_or_push}
 use Rattle.sat_clause.specs.Propagation.{clause_at}
 use Rattle.sat_engine.specs.declared.trail.Reason.{Reason}
 use Rattle.sat_engine.specs.declared.trail.Reason.TheVariants.{Free, Assumed, Clause}
-use Rattle.sat_engine.specs.declared.trail.Step.{Step}
+use Rattle.sat_engine.specs.declared.trail.SetLiteral.{SetLiteral}
 use Rattle.sat_engine.specs.Trail.{IsReason, AreReasons, lit_at, reason_at}
 use Rattle.sat_engine.specs.Look.{InRange, AreInRange}
 
@@ -23,7 +23,7 @@ pub clause_at-last : (F : List (List ℕ)) (c : List ℕ) (n : ℕ) → n ≡ le
 clause_at-last F c n e = get_or_push F c [] n (sym e)
 
 -- the reasons of a trail are reasons over more clauses
-pub AreReasons-more : (F : List (List ℕ)) (c A : List ℕ) (steps : List Step) → AreReasons F A steps → AreReasons (F ++ c ∷ []) A steps
+pub AreReasons-more : (F : List (List ℕ)) (c A : List ℕ) (steps : List SetLiteral) → AreReasons F A steps → AreReasons (F ++ c ∷ []) A steps
 AreReasons-more F c A steps all i lt = more i (reason_at steps i) (all i lt)
   where
     more : (i : ℕ) (r : Reason) → IsReason F A steps i r → IsReason (F ++ c ∷ []) A steps i r

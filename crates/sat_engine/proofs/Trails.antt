@@ -3,19 +3,19 @@ use Rattle.std.specs.List.{Contains}
 use Rattle.std.proofs.lemmas.List.{length-set, length_push, get_or_push, get_or_append_left, get_or-set_same, get_or-set_other, get_or-take, get_or_default, length-map, get_or-map, length-append}
 use Rattle.std.proofs.lemmas.Bool.{cases_eq, false≢true}
 use Rattle.sat_clause.proofs.Distinct.{distinct_below}
-use Rattle.sat_engine.specs.declared.trail.Step.{Step}
+use Rattle.sat_engine.specs.declared.trail.SetLiteral.{SetLiteral}
 use Rattle.sat_engine.specs.Trail.{none_step, lit_at, IsSet, IsTrail}
 
-pub lit_at-push : (xs : List Step) (s : Step) (i : ℕ) → i < length xs → lit_at (xs ++ s ∷ []) i ≡ lit_at xs i
-lit_at-push xs s i h = ap (λ (x : Step). x.lit) (get_or_append_left xs (s ∷ []) none_step i h)
+pub lit_at-push : (xs : List SetLiteral) (s : SetLiteral) (i : ℕ) → i < length xs → lit_at (xs ++ s ∷ []) i ≡ lit_at xs i
+lit_at-push xs s i h = ap (λ (x : SetLiteral). x.lit) (get_or_append_left xs (s ∷ []) none_step i h)
 
-pub lit_at-last : (xs : List Step) (s : Step) → lit_at (xs ++ s ∷ []) (length xs) ≡ s.lit
-lit_at-last xs s = ap (λ (x : Step). x.lit) (get_or_push xs s none_step (length xs) refl)
+pub lit_at-last : (xs : List SetLiteral) (s : SetLiteral) → lit_at (xs ++ s ∷ []) (length xs) ≡ s.lit
+lit_at-last xs s = ap (λ (x : SetLiteral). x.lit) (get_or_push xs s none_step (length xs) refl)
 
-pub lit_at-take : (n : ℕ) (xs : List Step) (i : ℕ) → i < n → lit_at (take n xs) i ≡ lit_at xs i
-lit_at-take n xs i h = ap (λ (x : Step). x.lit) (get_or-take n xs i none_step h)
+pub lit_at-take : (n : ℕ) (xs : List SetLiteral) (i : ℕ) → i < n → lit_at (take n xs) i ≡ lit_at xs i
+lit_at-take n xs i h = ap (λ (x : SetLiteral). x.lit) (get_or-take n xs i none_step h)
 
-pub IsTrail-pop : (xs : List Step) (s : Step) (truth : List Bool) (place : List ℕ) → IsTrail (xs ++ s ∷ []) truth place → IsTrail xs (set truth s.lit false) place
+pub IsTrail-pop : (xs : List SetLiteral) (s : SetLiteral) (truth : List Bool) (place : List ℕ) → IsTrail (xs ++ s ∷ []) truth place → IsTrail xs (set truth s.lit false) place
 IsTrail-pop xs s truth place t =
     let len : length (xs ++ s ∷ []) ≡ length xs + 1 = length_push xs s in
     let last = t.on (length xs) (omega arith) in
@@ -55,9 +55,9 @@ pub each_Contains : (P : ℕ → Type 0) (c : List ℕ) → ((k : ℕ) → k < l
 each_Contains P c all m h = subst P (get_or_default c h.0 0 m h.1 ∙ h.2) (all h.0 h.1)
 
 -- a trail has each literal at most once
-pub IsTrail-length : (steps : List Step) (truth : List Bool) (place : List ℕ) → IsTrail steps truth place → length steps ≤ length truth
+pub IsTrail-length : (steps : List SetLiteral) (truth : List Bool) (place : List ℕ) → IsTrail steps truth place → length steps ≤ length truth
 IsTrail-length steps truth place t =
-    let f = λ (s : Step). s.lit in
+    let f = λ (s : SetLiteral). s.lit in
     let xs : List ℕ = map f steps in
     let len : length xs ≡ length steps = length-map steps f in
     let at : (i : ℕ) → i < length steps → get_or xs i 0 ≡ lit_at steps i = λ i h. get_or-map f steps i none_step 0 h in
@@ -77,7 +77,7 @@ get_or_push_default [] d (suc i) = refl
 get_or_push_default (x ∷ xs) d zero = refl
 get_or_push_default (x ∷ xs) d (suc i) = get_or_push_default xs d i
 
-pub IsTrail-place : (steps : List Step) (truth : List Bool) (place : List ℕ) → IsTrail steps truth place → IsTrail steps truth (place ++ 0 ∷ [])
+pub IsTrail-place : (steps : List SetLiteral) (truth : List Bool) (place : List ℕ) → IsTrail steps truth place → IsTrail steps truth (place ++ 0 ∷ [])
 IsTrail-place steps truth place t =
     let same : (i : ℕ) → get_or place i 0 ≡ get_or (place ++ 0 ∷ []) i 0 = λ i. sym (get_or_push_default place 0 i) in
     record {
@@ -88,7 +88,7 @@ IsTrail-place steps truth place t =
           (subst (λ (x : ℕ). x < length steps) (same (l / 2)) w.0, subst (λ (x : ℕ). lit_at steps x ≡ l) (same (l / 2)) w.1);
     }
 
-pub IsTrail-truth : (steps : List Step) (truth : List Bool) (place : List ℕ) → IsTrail steps truth place → length truth + 2 ≤ 2 * length place → IsTrail steps (truth ++ false ∷ false ∷ []) place
+pub IsTrail-truth : (steps : List SetLiteral) (truth : List Bool) (place : List ℕ) → IsTrail steps truth place → length truth + 2 ≤ 2 * length place → IsTrail steps (truth ++ false ∷ false ∷ []) place
 IsTrail-truth steps truth place t room =
     let len : length (truth ++ false ∷ false ∷ []) ≡ length truth + 2 = length-append truth (false ∷ false ∷ []) in
     let same : (l : ℕ) → get_or (truth ++ false ∷ false ∷ []) l false ≡ get_or truth l false = λ l. two truth l in

@@ -18,7 +18,7 @@ pub enum Reason {
 
 /// A literal that was set true.
 #[derive(Clone, Copy, Debug)]
-pub struct Step {
+pub struct SetLiteral {
     pub lit: u32,
     pub reason: Reason,
 }
@@ -27,7 +27,7 @@ pub struct Step {
 /// where it stands.
 #[derive(Drop)]
 pub struct Trail {
-    pub steps: Vec<Step>,
+    pub steps: Vec<SetLiteral>,
     pub truth: Vec<bool>,
     pub place: Vec<usize>,
     ghost ok: { IsTrail steps.items truth.items place.items },
@@ -66,7 +66,7 @@ impl Trail {
         ensures err { OnErr result (self.new.steps.items ≡ self.old.steps.items) }
     {
         let at = self.steps.len();
-        self.steps.push(Step { lit, reason })?;
+        self.steps.push(SetLiteral { lit, reason })?;
         self.truth[lit as usize] = true;
         self.place[(lit / 2) as usize] = at;
         Ok(())

@@ -4,13 +4,14 @@ use Rattle.std.proofs.lemmas.List.{length-append, length_push, take-append-drop,
 use Rattle.std.proofs.lemmas.List.Elements.{All-take}
 use Rattle.std.proofs.Math.Seq.{take-append-add, get_or-append_right}
 use Rattle.sat_clause.specs.Literals.{AreBelow, ClausesAreBelow, MeetsAll}
-use Rattle.sat_clause.specs.Propagation.{clause_at, Follows, Refuted, IsProper, Spent}
+use Rattle.sat_clause.specs.Propagation.{clause_at, Follows, Refuted, Spent}
 use Rattle.sat_clause.proofs.Truths.{met_left}
+use Rattle.sat_clause.proofs.Sets.{IsProper-wider}
 use Rattle.proof_checker.specs.Checking.{IsRefutation, IsLearnt as IsLearntLog}
 use Rattle.sat_core.specs.Solving.{IsNew, IsLearnt}
 
 module _ (n : ℕ) (F G L : List (List ℕ)) (l : IsLearnt n F G) (log : L ≡ drop (length F) G) where
-  whole : G ≡ F ++ L
+  pub whole : G ≡ F ++ L
   whole = sym (take-append-drop (length F) G) ∙ ap (λ (x : List (List ℕ)). x ++ drop (length F) G) l.front ∙ ap (λ (x : List (List ℕ)). F ++ x) (sym log)
 
   size : length G ≡ length F + length L
@@ -67,13 +68,10 @@ module _ (n : ℕ) (F G L : List (List ℕ)) (l : IsLearnt n F G) (log : L ≡ d
   pub spent : (m budget : ℕ) → n ≤ m → length L ≡ budget → Spent m F budget L
   spent m budget le e = record {
     enough = omega arith;
-    proper = λ j h. wider (clause_at L j) (new_at j h).proper;
+    proper = λ j h. IsProper-wider n m (clause_at L j) le (new_at j h).proper;
     follows = λ j h. (new_at j h).follows;
     fresh = λ j h late. (new_at j h).fresh;
   }
-    where
-      wider : (c : List ℕ) → IsProper n c → IsProper m c
-      wider c p = record { below = λ k d lt. let b = p.below k d lt in omega arith; nonempty = p.nonempty; apart = p.apart }
 
 -- what is met with all that was learnt is met without it
 pub met_front : (n : ℕ) (F G : List (List ℕ)) → IsLearnt n F G → (A : ℕ → Bool) → MeetsAll A G → MeetsAll A F

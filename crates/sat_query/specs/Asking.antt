@@ -1,9 +1,8 @@
 -- What an answer about clauses says.
-use Rattle.std.specs.Prelude.{ℕ, ◌≡◌, ◌+◌, ◌-◌, ◌<◌, ◌≤◌, ◌++◌, ◌∷◌, List, [], length, Bool, IsTrue}
+use Rattle.std.specs.Prelude.{ℕ, ◌≡◌, ◌+◌, ◌-◌, ◌<◌, ◌≤◌, ◌++◌, ◌∷◌, List, [], length, Bool, true, false, IsTrue}
 use Rattle.sat_clause.specs.Literals.{AreBelow, ClausesAreBelow, MeetsAll, clause_holds, truths}
 use Rattle.sat_clause.specs.Propagation.{Spent}
 use Rattle.proof_checker.specs.Checking.{IsLearnt, IsRefutation}
-use Rattle.sat_core.specs.Counts.{raised, raised_by}
 use Rattle.sat_query.specs.declared.asking.Asked.{Asked}
 use Rattle.sat_query.specs.declared.asking.Asked.TheVariants.{Sat, Unsat, Spent as SpentWith, Stopped}
 
@@ -52,16 +51,15 @@ IsConfirmed F budget (Unsat log) = IsRefutation F log
 IsConfirmed F budget (SpentWith log) = IsLearnt F log budget
 IsConfirmed F budget Stopped = Unit {0}
 
--- the poll said yes exactly where the answer is Stopped
-abbrev pub YesSays : ℕ → ℕ → Asked → Type 0
-YesSays before now Stopped = now ≡ raised before
-YesSays before now (Sat a) = now ≡ before
-YesSays before now (Unsat log) = now ≡ before
-YesSays before now (SpentWith log) = now ≡ before
+abbrev pub is_stopped : Asked → Bool
+is_stopped Stopped = true
+is_stopped (Sat a) = false
+is_stopped (Unsat log) = false
+is_stopped (SpentWith log) = false
 
--- the poll was asked at least once for each clause of the log that was learnt, and the count never falls
-abbrev pub AskedOften : ℕ → ℕ → Asked → Type 0
-AskedOften before now (Sat a) = raised_by 0 before ≤ now
-AskedOften before now (Unsat log) = raised_by (length log - 1) before ≤ now
-AskedOften before now (SpentWith log) = raised_by (length log) before ≤ now
-AskedOften before now Stopped = raised_by 0 before ≤ now
+-- how many clauses of the answer's log were learnt
+abbrev pub shown_learnt : Asked → ℕ
+shown_learnt (Sat a) = 0
+shown_learnt (Unsat log) = length log - 1
+shown_learnt (SpentWith log) = length log
+shown_learnt Stopped = 0

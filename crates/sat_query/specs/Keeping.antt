@@ -1,8 +1,7 @@
 -- What the answers of a kept solver say.
-use Rattle.std.specs.Prelude.{ℕ, ◌≡◌, ◌+◌, ◌<◌, List, length, Bool}
+use Rattle.std.specs.Prelude.{ℕ, ◌≡◌, ◌+◌, ◌<◌, List, length, Bool, true, false}
 use Rattle.sat_clause.specs.Literals.{MeetsAll, AreTrue}
 use Rattle.sat_clause.specs.Propagation.{Refuted}
-use Rattle.sat_core.specs.Counts.{raised}
 use Rattle.sat_core.specs.Solving.{IsMet}
 use Rattle.sat_query.specs.declared.kept.KeptAnswer.{KeptAnswer}
 use Rattle.sat_query.specs.declared.kept.KeptAnswer.TheVariants.{Sat, Unsat, Spent, Stopped}
@@ -21,9 +20,8 @@ KeptSays n F G before log asked budget Unsat = IsRefuted F G asked
 KeptSays n F G before log asked budget (Spent shown) = (0 < budget) × (shown ≡ log) × (length log ≡ length before + budget)
 KeptSays n F G before log asked budget Stopped = Unit {0}
 
--- the poll said yes exactly where the answer is Stopped
-abbrev pub YesSays : ℕ → ℕ → KeptAnswer → Type 0
-YesSays before now Stopped = now ≡ raised before
-YesSays before now (Sat a) = now ≡ before
-YesSays before now Unsat = now ≡ before
-YesSays before now (Spent log) = now ≡ before
+abbrev pub is_stopped : KeptAnswer → Bool
+is_stopped Stopped = true
+is_stopped (Sat a) = false
+is_stopped Unsat = false
+is_stopped (Spent log) = false

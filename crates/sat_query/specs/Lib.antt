@@ -1,2 +1,4 @@
 pub mod Asking
 pub mod Keeping
+pub mod HeldBlocks
+pub mod KeepingBlocks

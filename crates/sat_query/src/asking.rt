@@ -1,7 +1,8 @@
 ghost use Rattle.std.specs.Prelude.{ℕ, ◌≡◌, ◌+◌, ◌<◌, ◌≤◌, ◌++◌, ◌∷◌, ◌↔◌, [], false, length, IfOk, IsTrue, OnOk};
 ghost use Rattle.sat_clause.specs.Literals.{ClausesAreBelow};
 ghost use Rattle.proof_checker.specs.Checking.{IsLearnt, IsRefutation};
-ghost use Rattle.sat_query.specs.Asking.{AskedOften, AskedSays, IsClauseMet, IsConfirmed, IsMet, YesSays};
+ghost use Rattle.sat_core.specs.Polling.{StaysReady, WasAsked};
+ghost use Rattle.sat_query.specs.Asking.{AskedSays, IsClauseMet, IsConfirmed, IsMet, is_stopped, shown_learnt};
 
 use kv_base::{NoMemory, Sequence};
 use proof_checker::{Checked, check};
@@ -55,10 +56,8 @@ fn search_with<P: Poll>(
     requires vars { (n : ℕ) → ClausesAreBelow n solver.old.clauses → solver.old.vars ≤ n }
     requires poll { P.ready poll.old }
     ensures answer { IfOk result (λ asked. (n : ℕ) → AskedSays n solver.old.clauses budget asked) }
-    ensures poll { P.ready poll.new }
-    ensures held { P.held poll.new ≡ P.held poll.old }
-    ensures asks { IfOk result (λ asked. AskedOften (P.asks poll.old) (P.asks poll.new) asked) }
-    ensures yeses { IfOk result (λ asked. YesSays (P.yeses poll.old) (P.yeses poll.new) asked) }
+    ensures poll { StaysReady P.ready P.held poll.old poll.new }
+    ensures asked { IfOk result (λ asked. WasAsked P.asks P.yeses poll.old poll.new (shown_learnt asked) (is_stopped asked)) }
 {
     match solver.solve(&Sequence::new(alloc), budget, poll)? {
         Answer::Sat(found) => Ok(Asked::Sat(found)),
@@ -123,10 +122,8 @@ fn is_confirmed(alloc: Global, cnf: &Cnf, budget: u32, asked: &Asked) -> Result<
 pub fn ask<P: Poll>(alloc: Global, cnf: &Cnf, budget: u32, poll: &mut P) -> Result<Asked, NoMemory>
     requires { P.ready poll.old }
     ensures answer { IfOk result (λ asked. AskedSays cnf.now.vars cnf.now.clauses budget asked) }
-    ensures poll { P.ready poll.new }
-    ensures held { P.held poll.new ≡ P.held poll.old }
-    ensures asks { IfOk result (λ asked. AskedOften (P.asks poll.old) (P.asks poll.new) asked) }
-    ensures yeses { IfOk result (λ asked. YesSays (P.yeses poll.old) (P.yeses poll.new) asked) }
+    ensures poll { StaysReady P.ready P.held poll.old poll.new }
+    ensures asked { IfOk result (λ asked. WasAsked P.asks P.yeses poll.old poll.new (shown_learnt asked) (is_stopped asked)) }
 {
     let asked = search_with(alloc, &mut begin(alloc, &cnf.clauses)?, budget, poll)?;
     // Each answer is proved to be confirmed. The test is there for a program that was compiled wrongly, and an

@@ -1,7 +1,7 @@
 ghost use Rattle.std.specs.Prelude.{ℕ, ◌≡◌, ◌-◌, ◌≤◌, ◌++◌, ◌∷◌, [], length, true, false, IsErr, IfOk, OnOk, OnErr};
-ghost use Rattle.sat_core.specs.Counts.{raised_by};
+ghost use Rattle.sat_core.specs.Polling.{StaysReady, WasAsked};
 ghost use Rattle.sat_core.specs.Solving.{IsRoom, Learns};
-ghost use Rattle.sat_query.specs.Keeping.{KeptSays, YesSays};
+ghost use Rattle.sat_query.specs.Keeping.{KeptSays, is_stopped};
 
 use kv_base::{Copied, NoMemory};
 use sat_clause::{Assignment, Clause, Lits, Log};
@@ -54,10 +54,8 @@ fn asked_of<P: Poll>(
     ensures learns { OnOk result (Learns solver.old solver.new budget) }
     ensures vars { OnOk result (IsRoom asked.now solver.old.vars solver.new.vars) }
     ensures answer { IfOk result (λ answer. KeptSays solver.new.vars solver.old.clauses solver.new.clauses solver.old.log solver.new.log asked.now budget answer) }
-    ensures poll { P.ready poll.new }
-    ensures held { P.held poll.new ≡ P.held poll.old }
-    ensures asks { OnOk result (raised_by (length solver.new.clauses - length solver.old.clauses) (P.asks poll.old) ≤ P.asks poll.new) }
-    ensures yeses { IfOk result (λ answer. YesSays (P.yeses poll.old) (P.yeses poll.new) answer) }
+    ensures poll { StaysReady P.ready P.held poll.old poll.new }
+    ensures asked { IfOk result (λ answer. WasAsked P.asks P.yeses poll.old poll.new (length solver.new.clauses - length solver.old.clauses) (is_stopped answer)) }
 {
     match solver.solve(asked, budget, poll)? {
         Answer::Sat(found) => Ok(KeptAnswer::Sat(found)),
@@ -113,10 +111,8 @@ impl Kept {
         ensures working { OnOk result (self.new.refused ≡ false) }
         ensures broken { OnErr result (self.new.refused ≡ true) }
         ensures refused { self.old.refused ≡ true → IsErr result }
-        ensures poll { P.ready poll.new }
-        ensures held { P.held poll.new ≡ P.held poll.old }
-        ensures asks { OnOk result (raised_by (length self.new.clauses - length self.old.clauses) (P.asks poll.old) ≤ P.asks poll.new) }
-        ensures yeses { IfOk result (λ answer. YesSays (P.yeses poll.old) (P.yeses poll.new) answer) }
+        ensures poll { StaysReady P.ready P.held poll.old poll.new }
+        ensures asked { IfOk result (λ answer. WasAsked P.asks P.yeses poll.old poll.new (length self.new.clauses - length self.old.clauses) (is_stopped answer)) }
     {
         if self.is_refused {
             return Err(NoMemory);

@@ -3,7 +3,10 @@
 #![tactic(auto)]
 
 mod asking;
+mod grown;
 mod kept;
+mod kept_blocks;
 
 pub use asking::{Asked, ask};
 pub use kept::{Kept, KeptAnswer};
+pub use kept_blocks::KeptBlocks;

@@ -9,7 +9,7 @@ use Rattle.sat_clause.proofs.Truths.{complement_twice, complement_variable}
 use Rattle.sat_search.proofs.Marks.{set-cases, set-kept}
 use Rattle.sat_search.proofs.Derivations.{Derived-wider}
 use Rattle.sat_engine.specs.declared.trail.Reason.TheVariants.{Clause}
-use Rattle.sat_engine.specs.declared.trail.Step.{Step}
+use Rattle.sat_engine.specs.declared.trail.SetLiteral.{SetLiteral}
 use Rattle.sat_engine.specs.Trail.{IsSet, IsTrail, lit_at}
 use Rattle.sat_engine.specs.Look.{AreFalse, AreFalseBut}
 use Rattle.sat_engine.specs.Grow.{IsImplied}
@@ -17,7 +17,7 @@ use Rattle.sat_search.specs.Mark.{IsMarkedAt, IsNext, MarkedAll}
 use Rattle.sat_search.specs.Analysis.{IsSite, IsMarked, IsLearnt, IsRedundant}
 
 -- a literal and its complement do not both stand in a trail
-pub apart : (steps : List Step) (truth : List Bool) (place : List ℕ) → IsTrail steps truth place → (l : ℕ) → IsSet truth l → IsSet truth (complement_of l) → ⊥
+pub apart : (steps : List SetLiteral) (truth : List Bool) (place : List ℕ) → IsTrail steps truth place → (l : ℕ) → IsSet truth l → IsSet truth (complement_of l) → ⊥
 apart steps truth place t l p q =
     let a = t.found l p in
     let b = t.found (complement_of l) q in
@@ -25,7 +25,7 @@ apart steps truth place t l p q =
     omega arith
 
 -- two set literals of one variable are one
-pub one_of_two : (steps : List Step) (truth : List Bool) (place : List ℕ) → IsTrail steps truth place → (l m : ℕ) → IsSet truth l → IsSet truth m → l / 2 ≡ m / 2 → l ≡ m
+pub one_of_two : (steps : List SetLiteral) (truth : List Bool) (place : List ℕ) → IsTrail steps truth place → (l m : ℕ) → IsSet truth l → IsSet truth m → l / 2 ≡ m / 2 → l ≡ m
 one_of_two steps truth place t l m p q e =
     let a = t.found l p in
     let b = t.found m q in
@@ -51,7 +51,7 @@ was_set old i v h = elim (cases_eq v i) [
 ]
 
 -- what marking a clause adds
-module _ (F : List (List ℕ)) (steps : List Step) (truth : List Bool) (place : List ℕ) (start floor : ℕ) (site : IsSite F steps truth place start floor) where
+module _ (F : List (List ℕ)) (steps : List SetLiteral) (truth : List Bool) (place : List ℕ) (start floor : ℕ) (site : IsSite F steps truth place start floor) where
   Facts : (A : List ℕ) (q : ℕ) → IsSet truth q → get_or place (q / 2) 0 < start → Derived F A q
   Facts A q s h = Derived-wider F [] A (λ l w. absurd (omega arith)) q (site.facts q s h)
 
@@ -283,7 +283,7 @@ module _ (F : List (List ℕ)) (steps : List Step) (truth : List Bool) (place : 
       }
 
 -- a further literal is marked and listed
-pub IsMarked-more : (F : List (List ℕ)) (steps : List Step) (truth : List Bool) (place : List ℕ) (floor top at : ℕ) (marks : List Bool) (low : List ℕ) → IsTrail steps truth place → IsMarked F truth place floor top marks low → at < length steps → at < floor → floor ≤ top
+pub IsMarked-more : (F : List (List ℕ)) (steps : List SetLiteral) (truth : List Bool) (place : List ℕ) (floor top at : ℕ) (marks : List Bool) (low : List ℕ) → IsTrail steps truth place → IsMarked F truth place floor top marks low → at < length steps → at < floor → floor ≤ top
     → IsMarked F truth place floor top (set marks (lit_at steps at / 2) true) (low ++ complement_of (lit_at steps at) ∷ [])
 IsMarked-more F steps truth place floor top at marks low t m lt under le =
     let p : ℕ = lit_at steps at in

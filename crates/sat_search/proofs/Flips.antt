@@ -4,7 +4,7 @@ use Rattle.std.proofs.lemmas.List.{length-take-le, get_or-take, take-take}
 use Rattle.sat_clause.specs.Propagation.{clause_at, Conflict}
 use Rattle.sat_search.specs.Rank.{rank}
 use Rattle.sat_engine.specs.declared.trail.Reason.TheVariants.{Clause}
-use Rattle.sat_engine.specs.declared.trail.Step.{Step}
+use Rattle.sat_engine.specs.declared.trail.SetLiteral.{SetLiteral}
 use Rattle.sat_engine.specs.Trail.{none_step, IsSet, IsTrail}
 use Rattle.sat_engine.specs.Look.{AreInRange, AreFalseBut}
 use Rattle.sat_engine.proofs.Trails.{IsTrail-length}
@@ -21,45 +21,45 @@ use Rattle.sat_search.specs.declared.once.Once.TheVariants.{Refuted, Learnt, Fli
 use Rattle.sat_search.proofs.States.{IsState-cut, IsState-grow, rank-cut}
 
 -- the state after a jump and an implied literal
-pub jump_state : (F : List (List ℕ)) (A : List ℕ) (G : List (List ℕ)) (old new after : List Step) (truth : List Bool) (place : List ℕ) (start : ℕ) (c : List ℕ) (l n : ℕ) → IsState F A old start → IsJump G old new truth start c → IsTrail new truth place → n < length F → Contains (clause_at F n) l → AreFalseBut (clause_at F n) truth l
+pub jump_state : (F : List (List ℕ)) (A : List ℕ) (G : List (List ℕ)) (old new after : List SetLiteral) (truth : List Bool) (place : List ℕ) (start : ℕ) (c : List ℕ) (l n : ℕ) → IsState F A old start → IsJump G old new truth start c → IsTrail new truth place → n < length F → Contains (clause_at F n) l → AreFalseBut (clause_at F n) truth l
     → after ≡ new ++ record { lit = l; reason = Clause n } ∷ [] → IsState F A after start
 jump_state F A G old new after truth place start c l n s j t lt has others e =
     let k : ℕ = j.cut in
-    let a : IsState F A new start = subst (λ (x : List Step). IsState F A x start) (sym j.is) (IsState-cut F A old start k s j.start_le (let w = j.within in omega arith)) in
+    let a : IsState F A new start = subst (λ (x : List SetLiteral). IsState F A x start) (sym j.is) (IsState-cut F A old start k s j.start_le (let w = j.within in omega arith)) in
     IsState-grow F A new after start (Grows-imply F new after truth place l n t lt has others e) a
 
-pub jump_flip : (G : List (List ℕ)) (old new after : List Step) (truth : List Bool) (start : ℕ) (c : List ℕ) (l n : ℕ) → IsJump G old new truth start c → after ≡ new ++ record { lit = l; reason = Clause n } ∷ [] → IsFlip old after
+pub jump_flip : (G : List (List ℕ)) (old new after : List SetLiteral) (truth : List Bool) (start : ℕ) (c : List ℕ) (l n : ℕ) → IsJump G old new truth start c → after ≡ new ++ record { lit = l; reason = Clause n } ∷ [] → IsFlip old after
 jump_flip G old new after truth start c l n j e = record {
   cut = j.cut;
   within = j.within;
   choice = j.choice;
   step = record { lit = l; reason = Clause n };
   implied = refl;
-  is = e ∙ ap (λ (x : List Step). x ++ record { lit = l; reason = Clause n } ∷ []) j.is;
+  is = e ∙ ap (λ (x : List SetLiteral). x ++ record { lit = l; reason = Clause n } ∷ []) j.is;
 }
 
 -- a flip lowers the rank
-pub flip_rank : (old new : List Step) (before : List Bool) (place : List ℕ) → IsTrail old before place → IsFlip old new → rank (length before) (word new) < rank (length before) (word old)
+pub flip_rank : (old new : List SetLiteral) (before : List Bool) (place : List ℕ) → IsTrail old before place → IsFlip old new → rank (length before) (word new) < rank (length before) (word old)
 flip_rank old new before place t f =
     let w = f.within in
     let len = IsTrail-length old before place t in
-    subst (λ (x : List Step). rank (length before) (word x) < rank (length before) (word old)) (sym f.is) (rank-cut (length before) old f.cut f.step f.within f.choice f.implied (omega arith))
+    subst (λ (x : List SetLiteral). rank (length before) (word x) < rank (length before) (word old)) (sym f.is) (rank-cut (length before) old f.cut f.step f.within f.choice f.implied (omega arith))
 
 -- a flip of a cut trail is one of the whole
-pub flip_take : (old mid new : List Step) (k : ℕ) → mid ≡ take k old → k ≤ length old → IsFlip mid new → IsFlip old new
+pub flip_take : (old mid new : List SetLiteral) (k : ℕ) → mid ≡ take k old → k ≤ length old → IsFlip mid new → IsFlip old new
 flip_take old mid new k e le f =
     let len : length mid ≡ k = ap length e ∙ length-take-le k old le in
     let w = f.within in
     record {
       cut = f.cut;
       within = omega arith;
-      choice = ap (λ (x : Step). is_choice x.reason) (sym (get_or-take k old f.cut none_step (omega arith))) ∙ subst (λ (x : List Step). IsChoiceAt x f.cut) e f.choice;
+      choice = ap (λ (x : SetLiteral). is_choice x.reason) (sym (get_or-take k old f.cut none_step (omega arith))) ∙ subst (λ (x : List SetLiteral). IsChoiceAt x f.cut) e f.choice;
       step = f.step;
       implied = f.implied;
-      is = f.is ∙ ap (λ (x : List Step). x ++ f.step ∷ []) (ap (take f.cut) e ∙ take-take f.cut k old (omega arith));
+      is = f.is ∙ ap (λ (x : List SetLiteral). x ++ f.step ∷ []) (ap (take f.cut) e ∙ take-take f.cut k old (omega arith));
     }
 
-pub jump_length : (G : List (List ℕ)) (old new : List Step) (truth : List Bool) (start : ℕ) (c : List ℕ) → IsJump G old new truth start c → (length new < length old) × (new ≡ take (length new) old)
+pub jump_length : (G : List (List ℕ)) (old new : List SetLiteral) (truth : List Bool) (start : ℕ) (c : List ℕ) → IsJump G old new truth start c → (length new < length old) × (new ≡ take (length new) old)
 jump_length G old new truth start c j =
     let w = j.within in
     let len : length new ≡ j.cut = ap length j.is ∙ length-take-le j.cut old (omega arith) in

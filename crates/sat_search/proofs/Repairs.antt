@@ -8,7 +8,7 @@ use Rattle.sat_clause.specs.Propagation.{clause_at, Conflict}
 use Rattle.sat_clause.proofs.Truths.{complement_twice, complement_variable}
 use Rattle.sat_engine.specs.declared.trail.Reason.{Reason}
 use Rattle.sat_engine.specs.declared.trail.Reason.TheVariants.{Free, Assumed}
-use Rattle.sat_engine.specs.declared.trail.Step.{Step}
+use Rattle.sat_engine.specs.declared.trail.SetLiteral.{SetLiteral}
 use Rattle.sat_engine.specs.Trail.{none_step, IsSet, IsTrail, lit_at, reason_at}
 use Rattle.sat_engine.specs.Look.{InRange, AreInRange, AreFalse}
 use Rattle.sat_engine.proofs.Trails.{each_Contains, lit_at-take}
@@ -26,7 +26,7 @@ IsLastPlace-at c d place here o e f h = subst (λ (x : List ℕ). IsLastPlace d 
 not_free : (r : Reason) → is_choice r ≡ false → r ≢ Free
 not_free r e f = false≢true (sym e ∙ ap is_choice f)
 
-module _ (F : List (List ℕ)) (A : List ℕ) (steps : List Step) (truth : List Bool) (place : List ℕ) (start n : ℕ) (t : IsTrail steps truth place) (s : IsState F A steps start) (lt : n < length F) (is_false : AreFalse (clause_at F n) truth) where
+module _ (F : List (List ℕ)) (A : List ℕ) (steps : List SetLiteral) (truth : List Bool) (place : List ℕ) (start n : ℕ) (t : IsTrail steps truth place) (s : IsState F A steps start) (lt : n < length F) (is_false : AreFalse (clause_at F n) truth) where
   until : (top : ℕ) → IsLastPlace (clause_at F n) (length (clause_at F n)) place (Some top) → (m : ℕ) → Contains (clause_at F n) m → get_or place (m / 2) 0 ≤ top
   until top h = each_Contains (λ m. get_or place (m / 2) 0 ≤ top) (clause_at F n) h.0
 
@@ -73,7 +73,7 @@ module _ (F : List (List ℕ)) (A : List ℕ) (steps : List Step) (truth : List 
       clash : Free ≡ Assumed → ⊥
       clash f = cc
 
-pub IsBack-from : (steps : List Step) (place here : List ℕ) (start : ℕ) (c : List ℕ) (last : Option ℕ) (from to : ℕ) → 0 < length c → start ≤ length steps → place ≡ here
+pub IsBack-from : (steps : List SetLiteral) (place here : List ℕ) (start : ℕ) (c : List ℕ) (last : Option ℕ) (from to : ℕ) → 0 < length c → start ≤ length steps → place ≡ here
     → IsLastPlace (take (length c - 1) c) (length (take (length c - 1) c)) place last
     → MatchOption last (from ≡ start) (λ t. (start ≤ from) × (t < from) × ((f : ℕ) → t < f → start ≤ f → from ≤ f))
     → from ≤ to → to ≤ length steps → NoChoice steps from to → (to < length steps → IsChoiceAt steps to) → IsBack steps here start c to
@@ -111,13 +111,13 @@ IsBack-from steps place here start c last from to some le e h m above within off
     }
 
 -- what a cut keeps set
-pub set_kept : (steps : List Step) (truth after : List Bool) (place : List ℕ) (k l : ℕ) → IsTrail steps truth place → IsTrail (take k steps) after place → k ≤ length steps → IsSet truth l → get_or place (l / 2) 0 < k → IsSet after l
+pub set_kept : (steps : List SetLiteral) (truth after : List Bool) (place : List ℕ) (k l : ℕ) → IsTrail steps truth place → IsTrail (take k steps) after place → k ≤ length steps → IsSet truth l → get_or place (l / 2) 0 < k → IsSet after l
 set_kept steps truth after place k l t u le h lt =
     let f = t.found l h in
     let len : length (take k steps) ≡ k = length-take-le k steps le in
     subst (λ (x : ℕ). IsSet after x) (lit_at-take k steps (get_or place (l / 2) 0) lt ∙ f.1) (u.on (get_or place (l / 2) 0) (omega arith)).1
 
-pub set_back : (steps : List Step) (truth after : List Bool) (place : List ℕ) (k l : ℕ) → IsTrail steps truth place → IsTrail (take k steps) after place → k ≤ length steps → IsSet after l → IsSet truth l × (get_or place (l / 2) 0 < k)
+pub set_back : (steps : List SetLiteral) (truth after : List Bool) (place : List ℕ) (k l : ℕ) → IsTrail steps truth place → IsTrail (take k steps) after place → k ≤ length steps → IsSet after l → IsSet truth l × (get_or place (l / 2) 0 < k)
 set_back steps truth after place k l t u le h =
     let f = u.found l h in
     let len : length (take k steps) ≡ k = length-take-le k steps le in
@@ -125,7 +125,7 @@ set_back steps truth after place k l t u le h =
     let e : lit_at steps (get_or place (l / 2) 0) ≡ l = sym (lit_at-take k steps (get_or place (l / 2) 0) lt) ∙ f.1 in
     (subst (λ (x : ℕ). IsSet truth x) e (t.on (get_or place (l / 2) 0) (omega arith)).1, lt)
 
-pub IsJump-from : (F : List (List ℕ)) (old mid new : List Step) (truth after : List Bool) (place : List ℕ) (start floor end k : ℕ) (c : List ℕ) → IsTrail mid truth place → IsTrail new after place → mid ≡ take end old → end ≤ length old → floor < end → start ≤ floor → IsChoiceAt old floor
+pub IsJump-from : (F : List (List ℕ)) (old mid new : List SetLiteral) (truth after : List Bool) (place : List ℕ) (start floor end k : ℕ) (c : List ℕ) → IsTrail mid truth place → IsTrail new after place → mid ≡ take end old → end ≤ length old → floor < end → start ≤ floor → IsChoiceAt old floor
     → IsLearnt F truth place floor c → IsBack mid place start c k → new ≡ take k mid → length after ≡ length truth → IsJump F old new after start c
 IsJump-from F old mid new truth after place start floor end k c t u e1 le lt le2 choice h b e2 size =
     let len_mid : length mid ≡ end = ap length e1 ∙ length-take-le end old le in
@@ -133,9 +133,9 @@ IsJump-from F old mid new truth after place start floor end k c t u e1 le lt le2
     let n : ℕ = length c - 1 in
     let n_is : n ≡ length h.low = omega arith in
     let last : get_or c n 0 ≡ complement_of h.uip = ap (λ (x : List ℕ). get_or x n 0) h.is ∙ get_or_push h.low (complement_of h.uip) 0 n (sym n_is) in
-    let choice_mid : IsChoiceAt mid floor = subst (λ (x : List Step). IsChoiceAt x floor) (sym e1) (choice_in floor lt choice) in
+    let choice_mid : IsChoiceAt mid floor = subst (λ (x : List SetLiteral). IsChoiceAt x floor) (sym e1) (choice_in floor lt choice) in
     let k_le : k ≤ floor = b.first floor le2 (omega arith) choice_mid (λ i a. low_at i a) in
-    let u2 : IsTrail (take k mid) after place = subst (λ (x : List Step). IsTrail x after place) e2 u in
+    let u2 : IsTrail (take k mid) after place = subst (λ (x : List SetLiteral). IsTrail x after place) e2 u in
     let k_mid : k ≤ length mid = omega arith in
     record {
       follows = h.follows;
@@ -166,10 +166,10 @@ IsJump-from F old mid new truth after place start floor end k c t u e1 le lt le2
     }
   where
     choice_in : (i : ℕ) → i < end → IsChoiceAt old i → IsChoiceAt (take end old) i
-    choice_in i lt h = ap (λ (x : Step). is_choice x.reason) (get_or-take end old i none_step lt) ∙ h
+    choice_in i lt h = ap (λ (x : SetLiteral). is_choice x.reason) (get_or-take end old i none_step lt) ∙ h
 
     choice_out : (i : ℕ) → i < end → IsChoiceAt mid i → IsChoiceAt old i
-    choice_out i lt h = ap (λ (x : Step). is_choice x.reason) (sym (get_or-take end old i none_step lt)) ∙ subst (λ (x : List Step). IsChoiceAt x i) e1 h
+    choice_out i lt h = ap (λ (x : SetLiteral). is_choice x.reason) (sym (get_or-take end old i none_step lt)) ∙ subst (λ (x : List SetLiteral). IsChoiceAt x i) e1 h
 
     low_at : (i : ℕ) → i + 1 < length c → get_or place (get_or c i 0 / 2) 0 < floor
     low_at i a =
@@ -177,7 +177,7 @@ IsJump-from F old mid new truth after place start floor end k c t u e1 le lt le2
         let same : get_or c i 0 ≡ get_or h.low i 0 = ap (λ (x : List ℕ). get_or x i 0) h.is ∙ get_or_append_left h.low (complement_of h.uip ∷ []) 0 i (omega arith) in
         subst (λ (x : ℕ). get_or place (x / 2) 0 < floor) (sym same) (h.low_below (get_or h.low i 0) (Contains-get_or h.low i 0 (omega arith)))
 
-pub learnt_range : (F : List (List ℕ)) (steps : List Step) (truth : List Bool) (place : List ℕ) (floor : ℕ) (c : List ℕ) → IsTrail steps truth place → IsLearnt F truth place floor c → InRange c (length truth)
+pub learnt_range : (F : List (List ℕ)) (steps : List SetLiteral) (truth : List Bool) (place : List ℕ) (floor : ℕ) (c : List ℕ) → IsTrail steps truth place → IsLearnt F truth place floor c → InRange c (length truth)
 learnt_range F steps truth place floor c t h i a =
     let l : ℕ = get_or c i 0 in
     let f = t.found (complement_of l) (false_in steps F truth place floor c h l (Contains-get_or c i 0 a)) in
@@ -191,11 +191,11 @@ learnt_low F truth place floor c h i a =
     subst (λ (x : ℕ). get_or place (x / 2) 0 < floor) (sym same) (h.low_below (get_or h.low i 0) (Contains-get_or h.low i 0 (omega arith)))
 
 -- the site of the analysis, after the cut after the spot's level
-pub site_at : (F : List (List ℕ)) (A : List ℕ) (old mid : List Step) (truth : List Bool) (place : List ℕ) (start n end : ℕ) (s : Spot) (here : List ℕ) → IsTrail mid truth here → AreInRange F (length truth) → IsState F A old start → IsSpot F old place start n s
+pub site_at : (F : List (List ℕ)) (A : List ℕ) (old mid : List SetLiteral) (truth : List Bool) (place : List ℕ) (start n end : ℕ) (s : Spot) (here : List ℕ) → IsTrail mid truth here → AreInRange F (length truth) → IsState F A old start → IsSpot F old place start n s
     → mid ≡ take end old → end ≤ length old → s.top < end → NoChoice old (s.top + 1) end → IsSite F mid truth here start s.floor
 site_at F A old mid truth place start n end s here t range st sp e le lt off =
     let len : length mid ≡ end = ap length e ∙ length-take-le end old le in
-    let ms : IsState F A mid start = subst (λ (x : List Step). IsState F A x start) (sym e) (IsState-cut F A old start end st (let a = sp.start_le in let b = sp.floor in omega arith) le) in
+    let ms : IsState F A mid start = subst (λ (x : List SetLiteral). IsState F A x start) (sym e) (IsState-cut F A old start end st (let a = sp.start_le in let b = sp.floor in omega arith) le) in
     IsSite-from F A mid truth here start s.floor t range ms (λ i a b.
-    let same : reason_at mid i ≡ reason_at old i = ap (λ (x : List Step). reason_at x i) e ∙ ap (λ (x : Step). x.reason) (get_or-take end old i none_step (omega arith)) in
+    let same : reason_at mid i ≡ reason_at old i = ap (λ (x : List SetLiteral). reason_at x i) e ∙ ap (λ (x : SetLiteral). x.reason) (get_or-take end old i none_step (omega arith)) in
     ap is_choice same ∙ elim (cases_lt s.top i) [ inl above ↦ off i (omega arith) (omega arith) | inr below ↦ sp.none i (omega arith) (omega arith) ])

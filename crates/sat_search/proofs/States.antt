@@ -11,7 +11,7 @@ use Rattle.sat_search.proofs.Derivations.{Derived-wider, Derived-push}
 use Rattle.sat_search.proofs.Ranks.{rank-flip}
 use Rattle.sat_engine.specs.declared.trail.Reason.{Reason}
 use Rattle.sat_engine.specs.declared.trail.Reason.TheVariants.{Free, Assumed, Clause}
-use Rattle.sat_engine.specs.declared.trail.Step.{Step}
+use Rattle.sat_engine.specs.declared.trail.SetLiteral.{SetLiteral}
 use Rattle.sat_engine.specs.Trail.{none_step, IsSet, IsTrail, lit_at, reason_at, Before, IsReason}
 use Rattle.sat_engine.specs.Look.{AreInRange, AreFalse}
 use Rattle.sat_engine.specs.Grow.{IsImplied, Grows}
@@ -24,7 +24,7 @@ use Rattle.sat_search.specs.State.{is_choice, word, IsState, IsNew}
 use Rattle.sat_search.proofs.Analyses.{apart}
 
 -- with no free choice before n, each literal before n is derived from the assumptions
-pub Derived-trail : (F : List (List ℕ)) (A : List ℕ) (steps : List Step) (start n : ℕ) → IsState F A steps start → ((i : ℕ) → start ≤ i → i < n → reason_at steps i ≢ Free) → (i : ℕ) → i < n → i < length steps → Derived F A (lit_at steps i)
+pub Derived-trail : (F : List (List ℕ)) (A : List ℕ) (steps : List SetLiteral) (start n : ℕ) → IsState F A steps start → ((i : ℕ) → start ≤ i → i < n → reason_at steps i ≢ Free) → (i : ℕ) → i < n → i < length steps → Derived F A (lit_at steps i)
 Derived-trail F A steps start n s off i lt within = below (suc i) i (omega arith) lt within
   where
     by_reason : (i : ℕ) (r : Reason) → (r ≢ Free) → ((j : ℕ) → j < i → Derived F A (lit_at steps j)) → IsReason F A steps i r → Derived F A (lit_at steps i)
@@ -40,10 +40,10 @@ Derived-trail F A steps start n s off i lt within = below (suc i) i (omega arith
       | inr late ↦ by_reason i (reason_at steps i) (off i late lt) (λ j k. below b j (omega arith) (omega arith) (omega arith)) (s.reasons i within)
     ]
 
-reason_at-take : (n : ℕ) (xs : List Step) (i : ℕ) → i < n → reason_at (take n xs) i ≡ reason_at xs i
-reason_at-take n xs i h = ap (λ (x : Step). x.reason) (get_or-take n xs i none_step h)
+reason_at-take : (n : ℕ) (xs : List SetLiteral) (i : ℕ) → i < n → reason_at (take n xs) i ≡ reason_at xs i
+reason_at-take n xs i h = ap (λ (x : SetLiteral). x.reason) (get_or-take n xs i none_step h)
 
-pub IsState-cut : (F : List (List ℕ)) (A : List ℕ) (steps : List Step) (start k : ℕ) → IsState F A steps start → start ≤ k → k ≤ length steps → IsState F A (take k steps) start
+pub IsState-cut : (F : List (List ℕ)) (A : List ℕ) (steps : List SetLiteral) (start k : ℕ) → IsState F A steps start → start ≤ k → k ≤ length steps → IsState F A (take k steps) start
 IsState-cut F A steps start k s le within =
     let len : length (take k steps) ≡ k = length-take-le k steps within in
     record {
@@ -56,22 +56,22 @@ IsState-cut F A steps start k s le within =
           (s.free j (omega arith) (sym (reason_at-take k steps j (omega arith)) ∙ e) a w);
     }
 
-pub IsState-grow : (F : List (List ℕ)) (A : List ℕ) (xs ys : List Step) (start : ℕ) → Grows F xs ys → IsState F A xs start → IsState F A ys start
+pub IsState-grow : (F : List (List ℕ)) (A : List ℕ) (xs ys : List SetLiteral) (start : ℕ) → Grows F xs ys → IsState F A xs start → IsState F A ys start
 IsState-grow F A xs ys start g s =
     let longer = g.longer in
     record {
       early = let e = s.early in omega arith;
       reasons = AreReasons-grown F A xs ys g s.reasons;
-      facts = λ i h. let e = s.early in subst (λ (x : ℕ). Derived F [] x) (ap (λ (x : Step). x.lit) (same_to F xs ys g i (omega arith))) (s.facts i h);
-      unchosen = λ i h. let e = s.early in ap (λ (x : Step). is_choice x.reason) (sym (same_to F xs ys g i (omega arith))) ∙ s.unchosen i h;
+      facts = λ i h. let e = s.early in subst (λ (x : ℕ). Derived F [] x) (ap (λ (x : SetLiteral). x.lit) (same_to F xs ys g i (omega arith))) (s.facts i h);
+      unchosen = λ i h. let e = s.early in ap (λ (x : SetLiteral). is_choice x.reason) (sym (same_to F xs ys g i (omega arith))) ∙ s.unchosen i h;
       free = λ j h e a w. elim (cases_lt j (length xs)) [
-        | inl below ↦ Before-same xs ys j a (λ i b. ap (λ (x : Step). x.lit) (same_to F xs ys g i (omega arith)))
-            (s.free j below (ap (λ (x : Step). x.reason) (same_to F xs ys g j below) ∙ e) a w)
+        | inl below ↦ Before-same xs ys j a (λ i b. ap (λ (x : SetLiteral). x.lit) (same_to F xs ys g i (omega arith)))
+            (s.free j below (ap (λ (x : SetLiteral). x.reason) (same_to F xs ys g j below) ∙ e) a w)
         | inr above ↦ absurd (subst (λ (x : Reason). IsImplied F ys j x) e (g.implied j above h))
       ];
     }
 
-pub IsState-more : (F : List (List ℕ)) (c A : List ℕ) (steps : List Step) (start : ℕ) → IsState F A steps start → IsState (F ++ c ∷ []) A steps start
+pub IsState-more : (F : List (List ℕ)) (c A : List ℕ) (steps : List SetLiteral) (start : ℕ) → IsState F A steps start → IsState (F ++ c ∷ []) A steps start
 IsState-more F c A steps start s = record {
   early = s.early;
   reasons = AreReasons-more F c A steps s.reasons;
@@ -80,15 +80,15 @@ IsState-more F c A steps start s = record {
   free = s.free;
 }
 
-pub IsState-choose : (F : List (List ℕ)) (A : List ℕ) (steps : List Step) (start l : ℕ) (r : Reason) → IsState F A steps start → IsReason F A (steps ++ record { lit = l; reason = r } ∷ []) (length steps) r
+pub IsState-choose : (F : List (List ℕ)) (A : List ℕ) (steps : List SetLiteral) (start l : ℕ) (r : Reason) → IsState F A steps start → IsReason F A (steps ++ record { lit = l; reason = r } ∷ []) (length steps) r
     → (r ≡ Free → (a : ℕ) → Contains A a → Before steps (length steps) a) → IsState F A (steps ++ record { lit = l; reason = r } ∷ []) start
 IsState-choose F A steps start l r s why all =
-    let st : Step = record { lit = l; reason = r } in
-    let ys : List Step = steps ++ st ∷ [] in
+    let st : SetLiteral = record { lit = l; reason = r } in
+    let ys : List SetLiteral = steps ++ st ∷ [] in
     let len : length ys ≡ length steps + 1 = length_push steps st in
     let lits : (i : ℕ) → i < length steps → lit_at steps i ≡ lit_at ys i = λ i h. sym (lit_at-push steps st i h) in
-    let reas : (i : ℕ) → i < length steps → reason_at steps i ≡ reason_at ys i = λ i h. ap (λ (x : Step). x.reason) (sym (get_or_append_left steps (st ∷ []) none_step i h)) in
-    let last : reason_at ys (length steps) ≡ r = ap (λ (x : Step). x.reason) (get_or_push steps st none_step (length steps) refl) in
+    let reas : (i : ℕ) → i < length steps → reason_at steps i ≡ reason_at ys i = λ i h. ap (λ (x : SetLiteral). x.reason) (sym (get_or_append_left steps (st ∷ []) none_step i h)) in
+    let last : reason_at ys (length steps) ≡ r = ap (λ (x : SetLiteral). x.reason) (get_or_push steps st none_step (length steps) refl) in
     record {
       early = let e = s.early in omega arith;
       reasons = λ i h. elim (cases_lt i (length steps)) [
@@ -107,12 +107,12 @@ IsState-choose F A steps start l r s why all =
     }
 
 -- a step that is no choice is implied
-pub IsImplied-from : (F : List (List ℕ)) (A : List ℕ) (steps : List Step) (i : ℕ) (r : Reason) → IsReason F A steps i r → is_choice r ≡ false → IsImplied F steps i r
+pub IsImplied-from : (F : List (List ℕ)) (A : List ℕ) (steps : List SetLiteral) (i : ℕ) (r : Reason) → IsReason F A steps i r → is_choice r ≡ false → IsImplied F steps i r
 IsImplied-from F A steps i Free h e = absurd (false≢true (sym e))
 IsImplied-from F A steps i Assumed h e = absurd (false≢true (sym e))
 IsImplied-from F A steps i (Clause n) h e = h
 
-pub IsSite-from : (F : List (List ℕ)) (A : List ℕ) (steps : List Step) (truth : List Bool) (place : List ℕ) (start floor : ℕ) → IsTrail steps truth place → AreInRange F (length truth) → IsState F A steps start
+pub IsSite-from : (F : List (List ℕ)) (A : List ℕ) (steps : List SetLiteral) (truth : List Bool) (place : List ℕ) (start floor : ℕ) → IsTrail steps truth place → AreInRange F (length truth) → IsState F A steps start
     → ((i : ℕ) → floor < i → i < length steps → is_choice (reason_at steps i) ≡ false) → IsSite F steps truth place start floor
 IsSite-from F A steps truth place start floor t range s off = record {
   trail = t;
@@ -123,7 +123,7 @@ IsSite-from F A steps truth place start floor t range s off = record {
 }
 
 -- a false clause with no free choice before its last literal refutes the assumptions
-pub Conflict-from : (F : List (List ℕ)) (A : List ℕ) (steps : List Step) (truth : List Bool) (place : List ℕ) (start n bound : ℕ) → IsTrail steps truth place → IsState F A steps start → n < length F → AreFalse (clause_at F n) truth
+pub Conflict-from : (F : List (List ℕ)) (A : List ℕ) (steps : List SetLiteral) (truth : List Bool) (place : List ℕ) (start n bound : ℕ) → IsTrail steps truth place → IsState F A steps start → n < length F → AreFalse (clause_at F n) truth
     → ((m : ℕ) → Contains (clause_at F n) m → get_or place (m / 2) 0 < bound) → ((i : ℕ) → start ≤ i → i < bound → reason_at steps i ≢ Free) → Conflict F A
 Conflict-from F A steps truth place start n bound t s lt is_false under off = record {
   at = n;
@@ -135,7 +135,7 @@ Conflict-from F A steps truth place start n bound t s lt is_false under off = re
 }
 
 -- no free choice stands before an assumed one
-pub no_free : (F : List (List ℕ)) (A : List ℕ) (steps : List Step) (truth : List Bool) (place : List ℕ) (start f : ℕ) → IsTrail steps truth place → IsState F A steps start → f < length steps → reason_at steps f ≡ Assumed → (j : ℕ) → j < f → reason_at steps j ≢ Free
+pub no_free : (F : List (List ℕ)) (A : List ℕ) (steps : List SetLiteral) (truth : List Bool) (place : List ℕ) (start f : ℕ) → IsTrail steps truth place → IsState F A steps start → f < length steps → reason_at steps f ≡ Assumed → (j : ℕ) → j < f → reason_at steps j ≢ Free
 no_free F A steps truth place start f t s lt e j below free =
     let r : Contains A (lit_at steps f) = subst (λ (x : Reason). IsReason F A steps f x) e (s.reasons f lt) in
     let b = s.free j (omega arith) free (lit_at steps f) r in
@@ -145,13 +145,13 @@ no_free F A steps truth place start f t s lt e j below free =
     let c = b.1 in omega arith
 
 -- a learnt clause, where none of F stands in it, is new
-pub false_in : (steps : List Step) (F : List (List ℕ)) (truth : List Bool) (place : List ℕ) (floor : ℕ) (c : List ℕ) → IsLearnt F truth place floor c → (l : ℕ) → Contains c l → IsSet truth (complement_of l)
+pub false_in : (steps : List SetLiteral) (F : List (List ℕ)) (truth : List Bool) (place : List ℕ) (floor : ℕ) (c : List ℕ) → IsLearnt F truth place floor c → (l : ℕ) → Contains c l → IsSet truth (complement_of l)
 false_in steps F truth place floor c h l w = elim (Contains-push_cases h.low (complement_of h.uip) l (subst (λ (x : List ℕ). Contains x l) h.is w)) [
   | inl a ↦ h.low_false l a
   | inr e ↦ subst (λ (x : ℕ). IsSet truth x) (sym (complement_twice h.uip) ∙ ap complement_of e) h.uip_set
 ]
 
-pub IsNew-from : (F : List (List ℕ)) (steps : List Step) (truth : List Bool) (place : List ℕ) (floor : ℕ) (c : List ℕ) → IsTrail steps truth place → IsLearnt F truth place floor c → ((i : ℕ) → i < length F → Includes c (clause_at F i) → ⊥) → IsNew F (length truth) c
+pub IsNew-from : (F : List (List ℕ)) (steps : List SetLiteral) (truth : List Bool) (place : List ℕ) (floor : ℕ) (c : List ℕ) → IsTrail steps truth place → IsLearnt F truth place floor c → ((i : ℕ) → i < length F → Includes c (clause_at F i) → ⊥) → IsNew F (length truth) c
 IsNew-from F steps truth place floor c t h none = record {
   follows = h.follows;
   range = λ k lt. let l : ℕ = get_or c k 0 in
@@ -165,11 +165,11 @@ IsNew-from F steps truth place floor c t h none = record {
 }
 
 -- the word of a trail that was cut at a choice and goes on by an implied literal comes later
-pub rank-cut : (n : ℕ) (steps : List Step) (k : ℕ) (s : Step) → k < length steps → is_choice (reason_at steps k) ≡ true → is_choice s.reason ≡ false → k < n
+pub rank-cut : (n : ℕ) (steps : List SetLiteral) (k : ℕ) (s : SetLiteral) → k < length steps → is_choice (reason_at steps k) ≡ true → is_choice s.reason ≡ false → k < n
     → rank n (word (take k steps ++ s ∷ [])) < rank n (word steps)
 rank-cut n steps k s lt choice not_choice room =
-    let f = λ (x : Step). is_choice x.reason in
-    let split : steps ≡ take k steps ++ get_or steps k none_step ∷ drop (k + 1) steps = sym (take-append-drop k steps) ∙ ap (λ (x : List Step). take k steps ++ x) (drop_more steps k none_step lt) in
+    let f = λ (x : SetLiteral). is_choice x.reason in
+    let split : steps ≡ take k steps ++ get_or steps k none_step ∷ drop (k + 1) steps = sym (take-append-drop k steps) ∙ ap (λ (x : List SetLiteral). take k steps ++ x) (drop_more steps k none_step lt) in
     let old : word steps ≡ word (take k steps) ++ true ∷ word (drop (k + 1) steps) = ap word split ∙ map-append f (take k steps) (get_or steps k none_step ∷ drop (k + 1) steps) ∙ ap (λ (x : Bool). word (take k steps) ++ x ∷ word (drop (k + 1) steps)) choice in
     let new : word (take k steps ++ s ∷ []) ≡ word (take k steps) ++ false ∷ [] = map-append f (take k steps) (s ∷ []) ∙ ap (λ (x : Bool). word (take k steps) ++ x ∷ []) not_choice in
     let len : length (word (take k steps)) ≡ k = length-map (take k steps) f ∙ length-take-le k steps (omega arith) in
@@ -177,7 +177,7 @@ rank-cut n steps k s lt choice not_choice room =
     subst (λ (x : List Bool). rank n (word (take k steps ++ s ∷ [])) < rank n x) (sym old) (subst (λ (x : List Bool). rank n x < rank n (word (take k steps) ++ true ∷ word (drop (k + 1) steps))) (sym new) h)
 
 -- what stands before the first choice follows from nothing
-pub IsState-advance : (F : List (List ℕ)) (A : List ℕ) (steps : List Step) (start k : ℕ) → IsState F A steps start → k ≤ length steps → ((i : ℕ) → start ≤ i → i < k → is_choice (reason_at steps i) ≡ false) → IsState F A steps k
+pub IsState-advance : (F : List (List ℕ)) (A : List ℕ) (steps : List SetLiteral) (start k : ℕ) → IsState F A steps start → k ≤ length steps → ((i : ℕ) → start ≤ i → i < k → is_choice (reason_at steps i) ≡ false) → IsState F A steps k
 IsState-advance F A steps start k s le off = record {
   early = le;
   reasons = s.reasons;

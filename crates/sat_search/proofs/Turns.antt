@@ -7,7 +7,7 @@ use Rattle.sat_search.specs.Rank.{rank}
 use Rattle.sat_clause.proofs.Propagation.{Refuted-both}
 use Rattle.sat_search.proofs.Ranks.{rank-more}
 use Rattle.sat_engine.specs.declared.trail.Reason.TheVariants.{Free}
-use Rattle.sat_engine.specs.declared.trail.Step.{Step}
+use Rattle.sat_engine.specs.declared.trail.SetLiteral.{SetLiteral}
 use Rattle.sat_engine.specs.Trail.{IsSet, IsTrail, reason_at}
 use Rattle.sat_engine.specs.Look.{InRange, AreFalse}
 use Rattle.sat_engine.specs.Grow.{Grows}
@@ -20,36 +20,36 @@ use Rattle.sat_search.specs.declared.turn.Turn.TheVariants.{Met, Refuted as Fail
 use Rattle.sat_search.specs.Turn.{TurnSays}
 use Rattle.sat_search.proofs.States.{Derived-trail}
 
-f : Step → Bool
+f : SetLiteral → Bool
 f s = is_choice s.reason
 
-more : (n : ℕ) (xs ys : List Step) → length (xs ++ ys) ≤ n → rank n (word (xs ++ ys)) ≤ rank n (word xs)
+more : (n : ℕ) (xs ys : List SetLiteral) → length (xs ++ ys) ≤ n → rank n (word (xs ++ ys)) ≤ rank n (word xs)
 more n xs [] h = let e : word (xs ++ []) ≡ word xs = ap word (append-nil xs) in subst (λ (x : List Bool). rank n x ≤ rank n (word xs)) (sym e) (omega arith)
 more n xs (y ∷ ys) h =
-    let g = λ (s : Step). is_choice s.reason in
+    let g = λ (s : SetLiteral). is_choice s.reason in
     let e : word (xs ++ y ∷ ys) ≡ word xs ++ is_choice y.reason ∷ word ys = map-append g xs (y ∷ ys) in
     let len : length (word xs ++ is_choice y.reason ∷ word ys) ≡ length (xs ++ y ∷ ys) = ap length (sym e) ∙ length-map (xs ++ y ∷ ys) g in
     let r = rank-more n (word xs) (is_choice y.reason) (word ys) (omega arith) in
     subst (λ (x : List Bool). rank n x ≤ rank n (word xs)) (sym e) (omega arith)
 
-pub push_rank : (xs ys : List Step) (s : Step) (truth : List Bool) (place : List ℕ) (n : ℕ) → ys ≡ xs ++ s ∷ [] → IsTrail ys truth place → length truth ≡ n → rank n (word ys) < rank n (word xs)
+pub push_rank : (xs ys : List SetLiteral) (s : SetLiteral) (truth : List Bool) (place : List ℕ) (n : ℕ) → ys ≡ xs ++ s ∷ [] → IsTrail ys truth place → length truth ≡ n → rank n (word ys) < rank n (word xs)
 push_rank xs ys s truth place n e t room =
-    let g = λ (x : Step). is_choice x.reason in
+    let g = λ (x : SetLiteral). is_choice x.reason in
     let w : word (xs ++ s ∷ []) ≡ word xs ++ is_choice s.reason ∷ [] = map-append g xs (s ∷ []) in
     let len : length (word xs ++ is_choice s.reason ∷ []) ≡ length ys = ap length (sym w) ∙ length-map (xs ++ s ∷ []) g ∙ ap length (sym e) in
     let b = IsTrail-length ys truth place t in
     let r = rank-more n (word xs) (is_choice s.reason) [] (omega arith) in
-    subst (λ (x : List Step). rank n (word x) < rank n (word xs)) (sym e) (subst (λ (x : List Bool). rank n x < rank n (word xs)) (sym w) r)
+    subst (λ (x : List SetLiteral). rank n (word x) < rank n (word xs)) (sym e) (subst (λ (x : List Bool). rank n x < rank n (word xs)) (sym w) r)
 
-pub grow_rank : (F : List (List ℕ)) (xs ys : List Step) (truth : List Bool) (place : List ℕ) (n : ℕ) → Grows F xs ys → IsTrail ys truth place → length truth ≡ n → rank n (word ys) ≤ rank n (word xs)
+pub grow_rank : (F : List (List ℕ)) (xs ys : List SetLiteral) (truth : List Bool) (place : List ℕ) (n : ℕ) → Grows F xs ys → IsTrail ys truth place → length truth ≡ n → rank n (word ys) ≤ rank n (word xs)
 grow_rank F xs ys truth place n g t room =
     let b = IsTrail-length ys truth place t in
-    let e : xs ++ drop (length xs) ys ≡ ys = ap (λ (x : List Step). x ++ drop (length xs) ys) (sym g.front) ∙ take-append-drop (length xs) ys in
+    let e : xs ++ drop (length xs) ys ≡ ys = ap (λ (x : List SetLiteral). x ++ drop (length xs) ys) (sym g.front) ∙ take-append-drop (length xs) ys in
     let r = more n xs (drop (length xs) ys) (omega (arith, ap length e)) in
-    subst (λ (x : List Step). rank n (word x) ≤ rank n (word xs)) e r
+    subst (λ (x : List SetLiteral). rank n (word x) ≤ rank n (word xs)) e r
 
 -- a false assumption refutes them
-pub refuted_by : (F : List (List ℕ)) (A : List ℕ) (steps : List Step) (truth : List Bool) (place : List ℕ) (start a : ℕ) → IsTrail steps truth place → IsState F A steps start → Contains A a → (IsSet truth a → ⊥) → IsSet truth (complement_of a) → Refuted F A
+pub refuted_by : (F : List (List ℕ)) (A : List ℕ) (steps : List SetLiteral) (truth : List Bool) (place : List ℕ) (start a : ℕ) → IsTrail steps truth place → IsState F A steps start → Contains A a → (IsSet truth a → ⊥) → IsSet truth (complement_of a) → Refuted F A
 refuted_by F A steps truth place start a t s w off on =
     let b = Before-set steps truth place t (complement_of a) on in
     let free : (j : ℕ) → start ≤ j → j < length steps → reason_at steps j ≢ Free = λ j h lt e.

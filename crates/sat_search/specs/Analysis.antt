@@ -3,14 +3,14 @@ use Rattle.std.specs.List.{Contains}
 use Rattle.sat_clause.specs.Literals.{complement_of}
 use Rattle.sat_clause.specs.Propagation.{clause_at, Derived, Conflict, Follows}
 use Rattle.sat_engine.specs.declared.trail.Reason.TheVariants.{Clause}
-use Rattle.sat_engine.specs.declared.trail.Step.{Step}
+use Rattle.sat_engine.specs.declared.trail.SetLiteral.{SetLiteral}
 use Rattle.sat_engine.specs.Trail.{IsSet, IsTrail, lit_at, reason_at}
 use Rattle.sat_engine.specs.Look.{AreInRange}
 use Rattle.sat_engine.specs.Grow.{IsImplied}
 use Rattle.sat_search.specs.Mark.{IsMarkedAt, IsNext}
 
 -- what holds where a conflict is analyzed: the choice at `floor` is the last, and what stands before `start` follows from nothing
-pub record IsSite (F : List (List ℕ)) (steps : List Step) (truth : List Bool) (place : List ℕ) (start floor : ℕ) : Type 0 where
+pub record IsSite (F : List (List ℕ)) (steps : List SetLiteral) (truth : List Bool) (place : List ℕ) (start floor : ℕ) : Type 0 where
   pub trail : IsTrail steps truth place
   pub range : AreInRange F (length truth)
   pub facts : (q : ℕ) → IsSet truth q → slice_index place (q / 2) < start → Derived F [] q
@@ -32,11 +32,11 @@ abbrev pub AreCovered : List ℕ → ℕ → List ℕ → ℕ → List Bool → 
 AreCovered c k place start marks skip = (i : ℕ) → i < k → slice_index c i ≢ skip → IsSet marks (slice_index c i / 2) ⊎ (slice_index place (slice_index c i / 2) < start)
 
 -- the literal at place i was set true by a clause whose other literals are covered
-abbrev pub IsRedundant : List (List ℕ) → List Step → List ℕ → ℕ → List Bool → ℕ → Type 0
+abbrev pub IsRedundant : List (List ℕ) → List SetLiteral → List ℕ → ℕ → List Bool → ℕ → Type 0
 IsRedundant F steps place start marks i = (n : ℕ) × IsImplied F steps i (Clause n) × AreCovered (clause_at F n) (length (clause_at F n)) place start marks (lit_at steps i)
 
 -- a further marked place from `floor` on
-abbrev pub IsWitness : List Step → List Bool → ℕ → ℕ → Option ℕ → Type 0
+abbrev pub IsWitness : List SetLiteral → List Bool → ℕ → ℕ → Option ℕ → Type 0
 IsWitness steps marks floor at None = IsNext steps marks floor at None
 IsWitness steps marks floor at (Some w) = (floor ≤ w) × (w < at) × IsMarkedAt steps marks w
 

@@ -1,6 +1,6 @@
 use Rattle.std.specs.Prelude.{ℕ, ◌≡◌, ◌≢◌, ◌/◌, ◌<◌, ◌≤◌, ◌⊎◌, List, length, slice_index, Bool, Option, None, Some}
 use Rattle.std.specs.List.{Contains}
-use Rattle.sat_engine.specs.declared.trail.Step.{Step}
+use Rattle.sat_engine.specs.declared.trail.SetLiteral.{SetLiteral}
 use Rattle.sat_engine.specs.Trail.{IsSet, lit_at}
 
 -- the variable of m is marked, and m is listed if it was set before `floor`
@@ -23,9 +23,9 @@ pub record MarkedAll (c : List ℕ) (k : ℕ) (place : List ℕ) (start floor sk
   pub low_has : (v : ℕ) → IsSet new v → slice_index place v < floor → IsSet old v ⊎ ((i : ℕ) × (i < k) × (slice_index c i ≢ skip) × (slice_index c i / 2 ≡ v) × Contains low_new (slice_index c i))
   pub size : length new ≡ length old
 
-abbrev pub IsMarkedAt : List Step → List Bool → ℕ → Type 0
+abbrev pub IsMarkedAt : List SetLiteral → List Bool → ℕ → Type 0
 IsMarkedAt steps marks i = IsSet marks (lit_at steps i / 2)
 
-abbrev pub IsNext : List Step → List Bool → ℕ → ℕ → Option ℕ → Type 0
+abbrev pub IsNext : List SetLiteral → List Bool → ℕ → ℕ → Option ℕ → Type 0
 IsNext steps marks floor top None = (i : ℕ) → floor ≤ i → i < top → IsMarkedAt steps marks i → ⊥
 IsNext steps marks floor top (Some s) = (floor ≤ s) × (s < top) × IsMarkedAt steps marks s × ((i : ℕ) → s < i → i < top → IsMarkedAt steps marks i → ⊥)

@@ -1,7 +1,7 @@
 use Rattle.std.specs.Prelude.{ℕ, ◌≡◌, ◌<◌, ◌++◌, ◌∷◌, List, [], length, take, false}
 use Rattle.sat_clause.specs.Propagation.{clause_at, Conflict}
 use Rattle.sat_engine.specs.Look.{AreFalse}
-use Rattle.sat_engine.specs.declared.trail.Step.{Step}
+use Rattle.sat_engine.specs.declared.trail.SetLiteral.{SetLiteral}
 use Rattle.sat_search.specs.Choice.{IsChoiceAt}
 use Rattle.sat_search.specs.declared.parts.Parts.{Parts}
 use Rattle.sat_search.specs.declared.once.Once.{Once}
@@ -13,11 +13,11 @@ pub record IsSame (p q : Parts) : Type 0 where
   pub size : length q.trail.truth.items ≡ length p.trail.truth.items
 
 -- a choice gave way to an implied literal
-pub record IsFlip (old new : List Step) : Type 0 where
+pub record IsFlip (old new : List SetLiteral) : Type 0 where
   pub cut : ℕ
   pub within : cut < length old
   pub choice : IsChoiceAt old cut
-  pub step : Step
+  pub step : SetLiteral
   pub implied : is_choice step.reason ≡ false
   pub is : new ≡ take cut old ++ step ∷ []
 

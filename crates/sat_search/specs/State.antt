@@ -3,7 +3,7 @@ use Rattle.std.specs.List.{Contains}
 use Rattle.sat_clause.specs.Propagation.{clause_at, Derived, HasComplements, Follows}
 use Rattle.sat_engine.specs.declared.trail.Reason.{Reason}
 use Rattle.sat_engine.specs.declared.trail.Reason.TheVariants.{Free, Assumed, Clause}
-use Rattle.sat_engine.specs.declared.trail.Step.{Step}
+use Rattle.sat_engine.specs.declared.trail.SetLiteral.{SetLiteral}
 use Rattle.sat_engine.specs.Trail.{IsSet, Before, AreReasons, lit_at, reason_at}
 use Rattle.sat_engine.specs.Look.{InRange, AreInRange}
 use Rattle.sat_search.specs.declared.parts.Parts.{Parts}
@@ -16,11 +16,11 @@ is_choice Assumed = true
 is_choice (Clause n) = false
 
 -- the trail as a word, for the measure
-abbrev pub word : List Step → List Bool
-word steps = map (λ (s : Step). is_choice s.reason) steps
+abbrev pub word : List SetLiteral → List Bool
+word steps = map (λ (s : SetLiteral). is_choice s.reason) steps
 
 -- the trail under the assumptions A: what stands before `start` follows from nothing, and the assumptions stand before each free choice
-pub record IsState (F : List (List ℕ)) (A : List ℕ) (steps : List Step) (start : ℕ) : Type 0 where
+pub record IsState (F : List (List ℕ)) (A : List ℕ) (steps : List SetLiteral) (start : ℕ) : Type 0 where
   pub reasons : AreReasons F A steps
   pub early : start ≤ length steps
   pub facts : (i : ℕ) → i < start → Derived F [] (lit_at steps i)

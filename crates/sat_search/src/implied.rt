@@ -1,6 +1,6 @@
 use crate::levels::Levels;
 use kv_base::NoMemory;
-use sat_engine::{Reason, Step, Store, Trail};
+use sat_engine::{Reason, SetLiteral, Store, Trail};
 use std::alloc::Global;
 
 /// How many looks at reasons may be taken for each literal.
@@ -65,7 +65,7 @@ fn bit(level: usize) -> u64 {
 
 impl Grounds<'_> {
     /// The step at a place of the trail.
-    fn step(&self, at: usize) -> Option<Step> {
+    fn step(&self, at: usize) -> Option<SetLiteral> {
         self.trail.steps.get(at).copied()
     }
 

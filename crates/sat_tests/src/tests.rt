@@ -3,6 +3,7 @@ mod checked;
 mod clauses;
 mod engine;
 mod kept;
+mod kept_blocks;
 mod order;
 mod random;
 mod solved;

@@ -51,7 +51,7 @@ binary_value s r Less a b = truth (int_lt a b)  -- 6.5.8
 binary_value s r Equal a b = truth (int_eq a b)  -- 6.5.9
 
 -- whether the exact result of the operation has the shape of a, so that nothing is lost (6.5 paragraph 5); of a
--- remainder, whether the quotient has it
+-- remainder, whether the quotient has it; of a shift to the left, whether also a isn't negative
 abbrev pub fits_value : Shape → Shape → BinaryOp → ℤ → ℤ → Bool
 fits_value s r Add a b = has_shape s (a +ℤ b)
 fits_value s r Sub a b = has_shape s (a -ℤ b)

@@ -79,7 +79,8 @@ pub enum TermKind {
         left: TermId,
         right: TermId,
     },
-    /// The truth of the exact result fitting the shape of the operands.
+    /// The truth of the exact result fitting the shape of the operands; of a remainder, of the quotient fitting it, and
+    /// of a shift to the left also of the left operand not being negative (6.5.7).
     Fits {
         op: BinaryOp,
         left: TermId,

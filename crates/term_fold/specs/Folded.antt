@@ -1,5 +1,6 @@
 -- What takes the place of a term.
-use Rattle.std.specs.Prelude.{◌≡◌, ℕ, ◌<◌, ℤ, List, length, slice_index_or, IfSome}
+use Rattle.std.specs.Prelude.{◌≡◌, ℕ, ◌<◌, ℤ, List, length, Option, Some, IfSome}
+use Rattle.std.specs.Option.{unwrap_or}
 use Rattle.term_core.specs.declared.term.Shape.{Shape}
 use Rattle.term_core.specs.declared.term.Term.{Term}
 use Rattle.term_core.specs.declared.term.TermId.{TermId}
@@ -64,22 +65,23 @@ pub record IsSame (ts : List Term) (i : ℕ) (id : TermId) : Type 0 where
   pub shape : shape_at ts id.0 ≡ shape_at ts i
   pub value : (E V : ℕ → ℤ) → Agrees E V ts → V id.0 ≡ V i
 
--- what stands for the term id by a table of what was folded
-abbrev pub renamed_id : List TermId → TermId → TermId
-renamed_id fs id = slice_index_or fs id.0 id
+-- what stands for the term id: what F says that it was folded to, and else itself
+abbrev pub renamed_id : (ℕ → Option TermId) → TermId → TermId
+renamed_id F id = unwrap_or (F id.0) id
 
--- each entry of the table stands for the term at its place
-pub record AllSame (ts : List Term) (fs : List TermId) : Type 0 where
-  pub at : (id : TermId) → id.0 < length fs → IsSame ts id.0 (renamed_id fs id)
+-- each term that F says that something was folded to stands for it
+pub record AllSame (ts : List Term) (F : ℕ → Option TermId) : Type 0 where
+  pub within : (i : ℕ) (id : TermId) → F i ≡ Some id → i < length ts
+  pub at : (i : ℕ) (id : TermId) → F i ≡ Some id → IsSame ts i id
 
-abbrev pub renamed_kind : List TermId → TermKind → TermKind
-renamed_kind fs (Constant n) = Constant n
-renamed_kind fs (Variable n) = Variable n
-renamed_kind fs (Unary op a) = Unary op (renamed_id fs a)
-renamed_kind fs (Binary op a b) = Binary op (renamed_id fs a) (renamed_id fs b)
-renamed_kind fs (Fits op a b) = Fits op (renamed_id fs a) (renamed_id fs b)
-renamed_kind fs (Select t y n) = Select (renamed_id fs t) (renamed_id fs y) (renamed_id fs n)
-renamed_kind fs (Convert a) = Convert (renamed_id fs a)
+abbrev pub renamed_kind : (ℕ → Option TermId) → TermKind → TermKind
+renamed_kind F (Constant n) = Constant n
+renamed_kind F (Variable n) = Variable n
+renamed_kind F (Unary op a) = Unary op (renamed_id F a)
+renamed_kind F (Binary op a b) = Binary op (renamed_id F a) (renamed_id F b)
+renamed_kind F (Fits op a b) = Fits op (renamed_id F a) (renamed_id F b)
+renamed_kind F (Select t y n) = Select (renamed_id F t) (renamed_id F y) (renamed_id F n)
+renamed_kind F (Convert a) = Convert (renamed_id F a)
 
 -- the operands are below i
 abbrev pub NamesBelow : ℕ → TermKind → Type 0

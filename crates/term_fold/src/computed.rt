@@ -59,7 +59,7 @@ pub(crate) fn shifted(shape: Shape, other: Shape, op: BinaryOp, a: i128, b: i128
 }
 
 /// Whether the exact result of an operation on two constants of a shape fits it, if C defines the
-/// operation.
+/// operation. A negative constant shifted to the left never fits.
 #[tactic(auto, using(crate::proofs::Constants::fits_constant, crate::proofs::Constants::fits_quotient))]
 pub(crate) fn fitting(shape: Shape, other: Shape, op: BinaryOp, a: i128, b: i128) -> Option<bool>
     requires valid { IsShape shape }
@@ -80,7 +80,7 @@ pub(crate) fn fitting(shape: Shape, other: Shape, op: BinaryOp, a: i128, b: i128
 }
 
 /// Whether the exact result of a left shift of a constant of a shape by a constant distance fits it, if C
-/// defines it.
+/// defines it. That of a negative one never does.
 fn shift_fitting(shape: Shape, other: Shape, a: i128, b: i128) -> Option<bool>
     requires valid { IsShape shape }
     requires left { HasShape shape a }

@@ -1,10 +1,14 @@
-ghost use Rattle.std.specs.Prelude.{◌≡◌, ◌<◌, ◌≤◌, ◌+◌, ℕ, ℤ, length, IfOk};
+ghost use Rattle.std.specs.Prelude.{◌≡◌, ◌<◌, ◌≤◌, ◌+◌, ℕ, ℤ, length, nat_eq, IfOk, OnOk, IfSome};
+ghost use Rattle.std.specs.List.{All};
+ghost use Rattle.indexmap.specs.IndexMap.{get};
 ghost use Rattle.term_core.specs.Shape.{IsShape};
 ghost use Rattle.term_core.specs.Table.{shape_at, kind_value, term_value, Agrees, IsTermAt, Grows};
 ghost use Rattle.term_fold.specs.Folded.{Stands, simpler_value, Replaces, IsSame, AllSame, renamed_id, renamed_kind, NamesBelow};
 
 use crate::NoMemory;
 use crate::simpler::{Simpler, simplify};
+use indexmap::IndexMap;
+use kv_base::Stack;
 use std::alloc::Global;
 use term_core::{Shape, Term, TermId, TermKind, Terms};
 
@@ -53,18 +57,16 @@ pub fn add_folded(terms: &mut Terms, term: Term) -> Result<TermId, NoMemory>
     Ok(id)
 }
 
-/// What stands for an operand.
-fn renamed(folded: &[TermId], id: TermId) -> TermId
-    requires { id.0 < length folded.now }
-    ensures { result ≡ renamed_id folded.now id }
+/// What stands for a term: what it was folded to, and else itself.
+fn renamed(folded: &IndexMap<u64, TermId>, id: TermId) -> TermId
+    ensures { result ≡ renamed_id (get nat_eq folded.now) id }
 {
-    folded[id.0 as usize]
+    folded.get(&id.0).copied().unwrap_or(id)
 }
 
 /// What a term is made of, with what stands for its operands in their place.
-fn with_folded(folded: &[TermId], kind: TermKind) -> TermKind
-    requires { NamesBelow (length folded.now) kind }
-    ensures { result ≡ renamed_kind folded.now kind }
+fn with_folded(folded: &IndexMap<u64, TermId>, kind: TermKind) -> TermKind
+    ensures { result ≡ renamed_kind (get nat_eq folded.now) kind }
 {
     match kind {
         TermKind::Constant { .. } | TermKind::Variable { .. } => kind,
@@ -95,10 +97,13 @@ fn with_folded(folded: &[TermId], kind: TermKind) -> TermKind
 
 /// Folds a term whose operands are folded.
 #[tactic(auto, using(crate::proofs::Renamed::folded_rules))]
-fn fold_one(terms: &mut Terms, id: TermId, folded: &[TermId]) -> Result<TermId, NoMemory>
+fn fold_one(
+    terms: &mut Terms,
+    id: TermId,
+    folded: &IndexMap<u64, TermId>,
+) -> Result<TermId, NoMemory>
     requires within { id.0 < length terms.old }
-    requires before { id.0 ≤ length folded.now }
-    requires known { AllSame terms.old folded.now }
+    requires known { AllSame terms.old (get nat_eq folded.now) }
     ensures same { IfOk result (IsSame terms.new id.0) }
     ensures kept { Grows terms.old terms.new }
 {
@@ -114,67 +119,64 @@ fn fold_one(terms: &mut Terms, id: TermId, folded: &[TermId]) -> Result<TermId, 
     )
 }
 
-/// Folds a term that is needed, and leaves another.
-#[tactic(auto, using(crate::proofs::Renamed::unfolded))]
-fn fold_needed(
-    terms: &mut Terms,
-    id: TermId,
-    folded: &[TermId],
-    is_needed: bool,
-) -> Result<TermId, NoMemory>
-    requires within { id.0 < length terms.old }
-    requires before { id.0 ≤ length folded.now }
-    requires known { AllSame terms.old folded.now }
-    ensures same { IfOk result (IsSame terms.new id.0) }
-    ensures kept { Grows terms.old terms.new }
+/// An operand, if it isn't folded yet.
+fn unfolded(folded: &IndexMap<u64, TermId>, id: TermId) -> Option<TermId>
+    ensures { IfSome result (λ found. found ≡ id) }
 {
-    if is_needed {
-        fold_one(terms, id, folded)
+    if folded.contains_key(&id.0) {
+        None
     } else {
-        Ok(id)
+        Some(id)
     }
 }
 
-/// Marks the operands of a term.
-fn mark(needed: &mut [bool], kind: TermKind)
-    requires { NamesBelow (length needed.old) kind }
+/// An operand of a term that isn't folded yet, if there is one.
+#[tactic(auto, using(crate::proofs::Renamed::first_of))]
+fn unfolded_operand(folded: &IndexMap<u64, TermId>, kind: TermKind) -> Option<TermId>
+    ensures { (n : ℕ) → NamesBelow n kind → IfSome result (λ found. found.0 < n) }
 {
     match kind {
-        TermKind::Constant { .. } | TermKind::Variable { .. } => {}
-        TermKind::Unary { of, .. } | TermKind::Convert { of } => {
-            needed[of.0 as usize] = true;
-        }
+        TermKind::Constant { .. } | TermKind::Variable { .. } => None,
+        TermKind::Unary { of, .. } | TermKind::Convert { of } => unfolded(folded, of),
         TermKind::Binary { left, right, .. } | TermKind::Fits { left, right, .. } => {
-            needed[left.0 as usize] = true;
-            needed[right.0 as usize] = true;
+            unfolded(folded, left).or(unfolded(folded, right))
         }
-        TermKind::Select { test, yes, no } => {
-            needed[test.0 as usize] = true;
-            needed[yes.0 as usize] = true;
-            needed[no.0 as usize] = true;
-        }
+        TermKind::Select { test, yes, no } => unfolded(folded, test)
+            .or(unfolded(folded, yes))
+            .or(unfolded(folded, no)),
     }
 }
 
-/// Which of the terms before a term it is made of.
-#[tactic(auto, using(crate::proofs::Renamed::names_below))]
-fn needed(alloc: Global, terms: &Terms, id: TermId) -> Result<Vec<bool>, NoMemory>
-    requires { id.0 < length terms.now }
-    ensures { IfOk result (λ needed. length needed.items ≡ id.0) }
+/// Folds a term whose operands are folded, and else puts it back with an operand that isn't before it.
+#[tactic(auto, using(crate::proofs::Renamed::steps))]
+fn visit(
+    terms: &mut Terms,
+    folded: &mut IndexMap<u64, TermId>,
+    waiting: &mut Stack<TermId>,
+    id: TermId,
+) -> Result<(), NoMemory>
+    requires within { id.0 < length terms.old }
+    requires known { AllSame terms.old (get nat_eq folded.old) }
+    requires waiting { All (λ w. w.0 < length terms.old) waiting.old }
+    ensures known { OnOk result (AllSame terms.new (get nat_eq folded.new)) }
+    ensures waiting { OnOk result (All (λ w. w.0 < length terms.new) waiting.new) }
+    ensures kept { Grows terms.old terms.new }
 {
-    let mut needed = vec![in alloc; false; id.0 as usize]?;
-    mark(&mut needed, terms.get(id).kind);
-    for at in (0..id.0).rev() {
-        if needed[at as usize] {
-            mark(&mut needed, terms.get(TermId(at)).kind);
-        }
+    let kind = terms.get(id).kind;
+    if let Some(operand) = unfolded_operand(folded, kind) {
+        waiting.push(id)?;
+        waiting.push(operand)?;
+        return Ok(());
     }
-    Ok(needed)
+    let made = fold_one(terms, id, folded)?;
+    folded.insert(id.0, made)?;
+    Ok(())
 }
 
 /// A term of the same shape and with the same value in every environment, in which constants are
-/// computed and neutral and absorbing operands left out. Only the terms that it is made of are looked
-/// at, each once, and earlier terms keep their numbers, also without memory for the answer.
+/// computed and neutral and absorbing operands left out. Only the term and those below it, of which it is made, are looked
+/// at, each at most four times, so the cost goes with their number, whatever else is in the table. Earlier terms keep
+/// their numbers, also without memory for the answer.
 #[tactic(auto, using(crate::proofs::Renamed::loops))]
 pub fn fold(alloc: Global, terms: &mut Terms, id: TermId) -> Result<TermId, NoMemory>
     requires { id.0 < length terms.old }
@@ -183,11 +185,15 @@ pub fn fold(alloc: Global, terms: &mut Terms, id: TermId) -> Result<TermId, NoMe
     ensures value { IfOk result (λ folded. (E V : ℕ → ℤ) → Agrees E V terms.new → V folded.0 ≡ V id.0) }
     ensures kept { Grows terms.old terms.new }
 {
-    let needed = needed(alloc, terms, id)?;
-    let mut folded: Vec<TermId> = Vec::new(alloc);
-    for at in 0..id.0 {
-        let next = fold_needed(terms, TermId(at), folded.as_slice(), needed[at as usize])?;
-        folded.push(next)?;
+    let mut folded: IndexMap<u64, TermId> = IndexMap::new(alloc);
+    let mut waiting = Stack::new(alloc);
+    waiting.push(id)?;
+    let visits = terms.len().saturating_mul(4);
+    for _visit in 0..visits {
+        let Some(next) = waiting.pop() else {
+            break;
+        };
+        visit(terms, &mut folded, &mut waiting, next)?;
     }
-    fold_one(terms, id, folded.as_slice())
+    Ok(renamed(&folded, id))
 }

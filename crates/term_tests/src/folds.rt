@@ -580,3 +580,31 @@ fn constants_of_any_width_are_computed(rt: HostRuntime) -> Result<(), Fail> {
     );
     Ok(())
 }
+
+#[test]
+fn shared_terms_are_folded_once(rt: HostRuntime) -> Result<(), Fail> {
+    let mut terms = Terms::new(rt.alloc());
+    let zero = constant(&mut terms, IntType::Int, 0)?;
+    let mut sum = variable(&mut terms, IntType::Int, 0)?;
+    for _level in 0..1_000 {
+        let doubled = operation(&mut terms, BinaryOp::Add, sum, sum)?;
+        sum = doubled;
+    }
+    let last = operation(&mut terms, BinaryOp::Add, sum, zero)?;
+    assert!(rt; last.0 < terms.len());
+    assert_eq!(rt; fold(rt.alloc(), &mut terms, last)?, sum);
+    Ok(())
+}
+
+#[test]
+fn many_other_terms_cost_nothing(rt: HostRuntime) -> Result<(), Fail> {
+    let mut terms = Terms::new(rt.alloc());
+    let zero = constant(&mut terms, IntType::Int, 0)?;
+    for number in 0..100_000u64 {
+        let x = variable(&mut terms, IntType::Int, number)?;
+        let sum = operation(&mut terms, BinaryOp::Add, zero, x)?;
+        assert!(rt; sum.0 < terms.len());
+        assert_eq!(rt; fold(rt.alloc(), &mut terms, sum)?, x);
+    }
+    Ok(())
+}

@@ -4,6 +4,8 @@ use Rattle.std.proofs.Math.Nat.{zero-div}
 use Rattle.std.proofs.lemmas.Int.{ints}
 use Rattle.std.proofs.lemmas.Nat.{div-mul-add}
 use Rattle.std.proofs.lemmas.Bool.{cases_lt, lt-ltb, le-ltb}
+use Rattle.std.proofs.lemmas.Bool.Decides.{Decides-int_eq}
+use Rattle.std.specs.Ordering.{int_eq}
 use Rattle.kv_num.specs.Bits.{differ}
 use Rattle.kv_num.specs.Quotient.{quotient_of, remainder_of}
 use Rattle.kv_num.specs.Shape.{below_at, InShape}
@@ -12,6 +14,9 @@ use Rattle.sat_clause.specs.Literals.{is_true, complement_of}
 use Rattle.sat_clause.proofs.Truths.{is_true-complement}
 use Rattle.word_sums.specs.Words.{bit, number, signed_number, word_value}
 use Rattle.word_sums.proofs.Numbers.{below_less, number-bound}
+use Rattle.term_core.specs.Term.{quotient_by, remainder_by}
+use Rattle.word_gates.specs.Words.{IsDivision}
+use Rattle.word_gates.proofs.Bounds.{zero_in_shape}
 use Rattle.word_gates.proofs.Exact.{neg_as, signed_product, wrapped_absolute}
 use Rattle.word_sums.proofs.Pieces.{number-split, nonzero, rest_is}
 
@@ -188,3 +193,72 @@ shape_of_word A signed a = range-wrap_at (length a) signed (pos (number A a))
 pub remainder_value : (A : ℕ → Bool) (signed neg : Bool) (low value : List ℕ) → length value ≡ length low → (if neg then number A value + number A low else number A value) ≡ (if neg then 2 ^ length low * bit (not (number A low == 0)) else number A low) → InShape (length low) signed (signed_number neg (number A low)) → word_value A signed value ≡ signed_number neg (number A low)
 remainder_value A signed neg low value len e is =
     wrapped_absolute A signed neg low value len e ∙ wrap_at-in_shape (length low) signed (signed_number neg (number A low)) is
+
+-- ---- also by 0
+
+pub masked_division : (n d q r mq mr : ℕ) (t : Bool) → q * d + r ≡ n → (0 < d → r < d) → t ≡ not (d == 0) → mq ≡ q * bit t → mr ≡ r * bit t → IsDivision n d mq mr
+masked_division n zero q r mq mr t whole small et eq er = record {
+  whole = λ h. absurd (omega arith);
+  small = λ h. absurd (omega arith);
+  none = λ e. (eq ∙ (ap (λ b. q * bit b) et ∙ omega arith), er ∙ (ap (λ b. r * bit b) et ∙ omega arith));
+}
+masked_division n (suc d) q r mq mr t whole small et eq er =
+    let yes : t ≡ true = et ∙ ap not (nonzero d) in
+    let same_q : mq ≡ q = eq ∙ (ap (λ b. q * bit b) yes ∙ omega arith) in
+    let same_r : mr ≡ r = er ∙ (ap (λ b. r * bit b) yes ∙ omega arith) in
+    record {
+      whole = λ h. (λ j. same_q j * suc d + same_r j) ∙ whole;
+      small = λ h. subst (λ z. z < suc d) (sym same_r) (small h);
+      none = λ e. absurd (omega arith);
+    }
+
+no_digits : (s : Bool) → signed_number s 0 ≡ pos 0
+no_digits true = omega (arith, ints)
+no_digits false = refl
+
+apart_from_zero : (s : Bool) (v : ℤ) (n : ℕ) → v ≡ signed_number s n → 0 < n → v ≢ pos 0
+apart_from_zero true v n e h = λ z. omega (arith, ints)
+apart_from_zero false v n e h = λ z. omega (arith, ints)
+
+not_equal : (x y : ℤ) → (x ≡ y → ⊥) → int_eq x y ≡ false
+not_equal x y h = grind (arith, ints)
+
+module _ (va vb : ℤ) (sx sy neg : Bool) (nx ny q r : ℕ) (ea : va ≡ signed_number sx nx) (eb : vb ≡ signed_number sy ny) (en : neg ≡ differ sx sy) (is : IsDivision nx ny q r) where
+  by_some : 0 < ny → vb ≢ pos 0
+  by_some h = apart_from_zero sy vb ny eb h
+
+  by_zero : ny ≡ 0 → int_eq vb (pos 0) ≡ true
+  by_zero e = (Decides-int_eq vb (pos 0)).1 (eb ∙ (ap (signed_number sy) e ∙ no_digits sy))
+
+  -- the quotient and the remainder, as the values of terms are
+  pub total_quotient_is : signed_number neg q ≡ quotient_by va vb
+  total_quotient_is = by (cases_lt 0 ny)
+    where
+      by : (0 < ny) ⊎ (ny ≤ 0) → signed_number neg q ≡ quotient_by va vb
+      by (inl h) =
+          signed_quotient_is va vb sx sy neg nx ny q r ea eb en (is.whole h) is.small (by_some h)
+          ∙ sym (ap (λ (t : Bool). if t then pos 0 else quotient_of va vb) (not_equal vb (pos 0) (by_some h)))
+      by (inr h) =
+          let e : ny ≡ 0 = omega arith in
+          ap (signed_number neg) (is.none e).0 ∙ (no_digits neg ∙ sym (ap (λ (t : Bool). if t then pos 0 else quotient_of va vb) (by_zero e)))
+
+  pub total_remainder_is : signed_number sx r ≡ remainder_by va vb
+  total_remainder_is = by (cases_lt 0 ny)
+    where
+      by : (0 < ny) ⊎ (ny ≤ 0) → signed_number sx r ≡ remainder_by va vb
+      by (inl h) =
+          signed_remainder_is va vb sx sy neg nx ny q r ea eb en (is.whole h) is.small (by_some h)
+          ∙ sym (ap (λ (t : Bool). if t then pos 0 else remainder_of va vb) (not_equal vb (pos 0) (by_some h)))
+      by (inr h) =
+          let e : ny ≡ 0 = omega arith in
+          ap (signed_number sx) (is.none e).1 ∙ (no_digits sx ∙ sym (ap (λ (t : Bool). if t then pos 0 else remainder_of va vb) (by_zero e)))
+
+  pub total_remainder_shape : (w : ℕ) (signed : Bool) → 0 < w → InShape w signed va → InShape w signed (signed_number sx r)
+  total_remainder_shape w signed some fits = by (cases_lt 0 ny)
+    where
+      by : (0 < ny) ⊎ (ny ≤ 0) → InShape w signed (signed_number sx r)
+      by (inl h) = remainder_shape va vb sx sy neg nx ny q r ea eb en (is.whole h) is.small (by_some h) w signed some fits
+      by (inr h) =
+          let e : ny ≡ 0 = omega arith in
+          let P : ℤ → Type 0 = λ z. InShape w signed z in
+          subst P (sym (ap (signed_number sx) (is.none e).1 ∙ no_digits sx)) (zero_in_shape w signed some)

@@ -1,15 +1,18 @@
 ghost use Rattle.std.specs.Prelude.{◌≡◌, ◌<◌, ◌≤◌, ◌+◌, ◌-◌, ◌*◌, ◌%◌, ◌^◌, ◌&&◌, ◌||◌, ◌++◌, nat_lt, not, ◌↔◌, IsTrue, ℕ, Bool, pos, ◌-ℤ◌, ◌≤ℤ◌, length, replicate, if◌then◌else◌, IfOk};
 ghost use Rattle.kv_num.specs.Shift.{left_of, right_of};
 ghost use Rattle.kv_num.specs.Shape.{InShape, wrap_at};
+ghost use Rattle.term_core.specs.Term.{left_by, right_by};
 ghost use Rattle.sat_clause.specs.Literals.{is_true};
 ghost use Rattle.gate_core.specs.Table.{Agrees, IsLitOf, Grows};
 ghost use Rattle.word_sums.specs.Words.{number, word_value, continued_value, IsWordOf};
 
+use crate::distances::{distance_bits, is_below};
 use crate::signs::sign;
 use gate_core::Gates;
 use kv_base::{NoMemory, Sequence};
 use sat_clause::Lit;
 use std::alloc::Global;
+use word_products::masked;
 use word_sums::{Word, WordNum, above, any, or, select};
 
 /// A word, and whether a bit was lost past its top.
@@ -19,8 +22,8 @@ struct Raised {
     lost: Lit,
 }
 
-/// The product of a word's number and 2 to the number of another without a sign (6.5.7). Nothing is said of a distance
-/// that isn't below the width. A negative number never fits.
+/// The product of a word's number and 2 to the number of another without a sign (6.5.7), which may have another width.
+/// By a distance that isn't below the first word's width the result is 0. A negative number never fits.
 pub fn shift_left(
     alloc: Global,
     gates: &mut Gates,
@@ -30,30 +33,31 @@ pub fn shift_left(
 ) -> Result<WordNum, NoMemory>
     requires left { IsWordOf gates.old a.now }
     requires right { IsWordOf gates.old b.now }
-    requires same { length b.now ≡ length a.now }
     requires some { 0 < length a.now }
     ensures len { IfOk result (λ r. length r.value ≡ length a.now) }
     ensures word { IfOk result (λ r. IsWordOf gates.new r.value) }
     ensures within { IfOk result (λ r. IsLitOf gates.new r.fits) }
-    ensures value { IfOk result (λ r. (A : ℕ → Bool) → Agrees A gates.new → number A b.now < length a.now → word_value A signed r.value ≡ wrap_at (length a.now) signed (left_of (word_value A signed a.now) (number A b.now))) }
-    ensures fits { IfOk result (λ r. (A : ℕ → Bool) → Agrees A gates.new → number A b.now < length a.now → IsTrue (is_true A r.fits) ↔ ((pos 0 ≤ℤ word_value A signed a.now) × InShape (length a.now) signed (left_of (word_value A signed a.now) (number A b.now)))) }
+    ensures value { IfOk result (λ r. (A : ℕ → Bool) (sign : Bool) → Agrees A gates.new → word_value A signed r.value ≡ wrap_at (length a.now) signed (left_by (length a.now) (length b.now) (word_value A signed a.now) (word_value A sign b.now))) }
+    ensures fits { IfOk result (λ r. (A : ℕ → Bool) (sign : Bool) → Agrees A gates.new → IsTrue (is_true A r.fits) ↔ ((pos 0 ≤ℤ word_value A signed a.now) × InShape (length a.now) signed (left_by (length a.now) (length b.now) (word_value A signed a.now) (word_value A sign b.now)))) }
     ensures grows { Grows gates.old gates.new }
 {
     let bits = a.as_slice();
-    let top = bits.len() - 1;
     let distance = b.as_slice();
-    let used = distance_bits(bits.len());
-    let raised = raise(alloc, gates, bits, &distance[..used])?;
-    let digits = raised.word.as_slice();
-    let over = past_top(gates, raised.lost, digits[top], signed)?;
+    let used = distance_bits(bits.len()).min(distance.len());
+    let near = is_below(gates, distance, bits.len())?;
+    let moved = left_within(alloc, gates, bits, &distance[..used], signed)?;
+    let value = masked(alloc, gates, moved.value.as_slice(), near)?;
+    let negative = sign(gates, bits, signed)?;
+    let past = gates.and(near, moved.fits.complement())?;
+    let over = or(gates, past, negative)?;
     Ok(WordNum {
-        value: raised.word,
+        value,
         fits: over.complement(),
     })
 }
 
-/// The quotient of a word's number by 2 to the number of another without a sign, rounded down (6.5.7). Nothing is said
-/// of a distance that isn't below the width.
+/// The quotient of a word's number by 2 to the number of another without a sign, rounded down (6.5.7). The other may
+/// have another width. By a distance that isn't below the first word's width the result is 0.
 pub fn shift_right(
     alloc: Global,
     gates: &mut Gates,
@@ -63,33 +67,52 @@ pub fn shift_right(
 ) -> Result<Word, NoMemory>
     requires left { IsWordOf gates.old a.now }
     requires right { IsWordOf gates.old b.now }
-    requires same { length b.now ≡ length a.now }
     requires some { 0 < length a.now }
     ensures len { IfOk result (λ w. length w ≡ length a.now) }
     ensures word { IfOk result (λ w. IsWordOf gates.new w) }
-    ensures value { IfOk result (λ w. (A : ℕ → Bool) → Agrees A gates.new → number A b.now < length a.now → word_value A signed w ≡ right_of (word_value A signed a.now) (number A b.now)) }
+    ensures value { IfOk result (λ w. (A : ℕ → Bool) (sign : Bool) → Agrees A gates.new → word_value A signed w ≡ wrap_at (length a.now) signed (right_by (length a.now) (length b.now) (word_value A signed a.now) (word_value A sign b.now))) }
+    ensures exact { IfOk result (λ w. (A : ℕ → Bool) (sign : Bool) → Agrees A gates.new → word_value A signed w ≡ right_by (length a.now) (length b.now) (word_value A signed a.now) (word_value A sign b.now)) }
     ensures grows { Grows gates.old gates.new }
 {
     let bits = a.as_slice();
     let distance = b.as_slice();
-    let used = distance_bits(bits.len());
+    let used = distance_bits(bits.len()).min(distance.len());
+    let near = is_below(gates, distance, bits.len())?;
     let fill = sign(gates, bits, signed)?;
-    let word = lower(alloc, gates, bits, &distance[..used], fill)?;
+    let moved = lower(alloc, gates, bits, &distance[..used], fill)?;
+    let word = masked(alloc, gates, moved.as_slice(), near)?;
     Ok(word)
 }
 
-/// How many of the lowest bits of a distance below a width may be set.
-fn distance_bits(width: usize) -> usize
-    requires { 0 < width }
-    ensures enough { width ≤ 2 ^ result }
-    ensures least { (i : ℕ) → i < result → 2 ^ i < width }
-    ensures within { result ≤ width }
-    ensures few { result ≤ 64 }
+/// The product of a word's number and 2 to the number of a distance, each bit of which is a number of places within the
+/// word. A negative number never fits.
+fn left_within(
+    alloc: Global,
+    gates: &mut Gates,
+    bits: &[Lit],
+    distance: &[Lit],
+    signed: bool,
+) -> Result<WordNum, NoMemory>
+    requires word { IsWordOf gates.old bits.now }
+    requires distance { IsWordOf gates.old distance.now }
+    requires some { 0 < length bits.now }
+    requires short { (i : ℕ) → i < length distance.now → 2 ^ i < length bits.now }
+    requires few { length distance.now ≤ 64 }
+    ensures len { IfOk result (λ r. length r.value ≡ length bits.now) }
+    ensures word { IfOk result (λ r. IsWordOf gates.new r.value) }
+    ensures within { IfOk result (λ r. IsLitOf gates.new r.fits) }
+    ensures value { IfOk result (λ r. (A : ℕ → Bool) → Agrees A gates.new → word_value A signed r.value ≡ wrap_at (length bits.now) signed (left_of (word_value A signed bits.now) (number A distance.now))) }
+    ensures fits { IfOk result (λ r. (A : ℕ → Bool) → Agrees A gates.new → IsTrue (is_true A r.fits) ↔ ((pos 0 ≤ℤ word_value A signed bits.now) × InShape (length bits.now) signed (left_of (word_value A signed bits.now) (number A distance.now)))) }
+    ensures grows { Grows gates.old gates.new }
 {
-    match (width - 1).checked_ilog2() {
-        Some(top) => top as usize + 1,
-        None => 0,
-    }
+    let raised = raise(alloc, gates, bits, distance)?;
+    let top = bits.len() - 1;
+    let digits = raised.word.as_slice();
+    let over = past_top(gates, raised.lost, digits[top], signed)?;
+    Ok(WordNum {
+        value: raised.word,
+        fits: over.complement(),
+    })
 }
 
 /// Whether a shifted number is past its width's range: a bit was lost, or with a sign its top bit is set.

@@ -7,4 +7,4 @@
 mod products;
 mod signed_products;
 
-pub use products::mul;
+pub use products::{masked, mul};

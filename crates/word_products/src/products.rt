@@ -119,12 +119,7 @@ pub(crate) fn upper(alloc: Global, word: &[Lit], top: Lit) -> Result<Word, NoMem
 }
 
 /// The word where a literal is true, and else zero.
-pub(crate) fn masked(
-    alloc: Global,
-    gates: &mut Gates,
-    word: &[Lit],
-    test: Lit,
-) -> Result<Word, NoMemory>
+pub fn masked(alloc: Global, gates: &mut Gates, word: &[Lit], test: Lit) -> Result<Word, NoMemory>
     requires word { IsWordOf gates.old word.now }
     requires test { IsLitOf gates.old test }
     ensures len { IfOk result (λ w. length w ≡ length word.now) }

@@ -68,15 +68,15 @@ fn inputs(alloc: Global, gates: &mut Gates, width: usize) -> Result<Word, NoMemo
     Ok(word)
 }
 
-/// Two words of new inputs.
-fn operands(alloc: Global, gates: &mut Gates, width: usize) -> Result<Pair, NoMemory>
+/// Two words of new inputs, of these widths.
+fn operands(alloc: Global, gates: &mut Gates, width: usize, other: usize) -> Result<Pair, NoMemory>
     ensures a_len { IfOk result (λ r. length r.a ≡ width) }
-    ensures b_len { IfOk result (λ r. length r.b ≡ width) }
+    ensures b_len { IfOk result (λ r. length r.b ≡ other) }
     ensures a { IfOk result (λ r. IsWordOf gates.new r.a) }
     ensures b { IfOk result (λ r. IsWordOf gates.new r.b) }
 {
     let a = inputs(alloc, gates, width)?;
-    let b = inputs(alloc, gates, width)?;
+    let b = inputs(alloc, gates, other)?;
     Ok(Pair { a, b })
 }
 
@@ -91,7 +91,7 @@ impl Circuit {
         requires { 0 < width }
     {
         let mut gates = Gates::new(alloc);
-        let words = operands(alloc, &mut gates, width)?;
+        let words = operands(alloc, &mut gates, width, width)?;
         let (a, b) = (&words.a, &words.b);
         match operation {
             Operation::Add => {
@@ -139,6 +139,26 @@ impl Circuit {
                 Ok(of_word(gates, word))
             }
         }
+    }
+
+    /// The circuit of a shift, to the left or else to the right, of a word of a width by one of another.
+    pub fn shift(
+        alloc: Global,
+        is_left: bool,
+        width: usize,
+        other: usize,
+        signed: bool,
+    ) -> Result<Circuit, NoMemory>
+        requires { 0 < width }
+    {
+        let mut gates = Gates::new(alloc);
+        let words = operands(alloc, &mut gates, width, other)?;
+        if is_left {
+            let num = shift_left(alloc, &mut gates, &words.a, &words.b, signed)?;
+            return Ok(of_num(gates, num));
+        }
+        let word = shift_right(alloc, &mut gates, &words.a, &words.b, signed)?;
+        Ok(of_word(gates, word))
     }
 }
 

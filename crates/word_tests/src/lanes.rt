@@ -31,13 +31,18 @@ pub fn evaluated(alloc: Global, gates: &Gates, inputs: &[u128]) -> Result<Vec<u1
     Ok(truths)
 }
 
-/// The truths of two words of inputs, of which each pair gives a pattern, the first word's first.
-pub fn inputs(alloc: Global, pairs: &[(u128, u128)], width: usize) -> Result<Vec<u128>, NoMemory> {
+/// The truths of two words of inputs of two widths, of which each pair gives a pattern, the first word's first.
+pub fn inputs(
+    alloc: Global,
+    pairs: &[(u128, u128)],
+    width: usize,
+    other: usize,
+) -> Result<Vec<u128>, NoMemory> {
     let mut truths = Vec::new(alloc);
     for i in 0..width {
         truths.push(input(pairs, i, false))?;
     }
-    for i in 0..width {
+    for i in 0..other {
         truths.push(input(pairs, i, true))?;
     }
     Ok(truths)

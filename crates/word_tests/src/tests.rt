@@ -1,6 +1,7 @@
-//! Every pair of 8-bit words against the typed numbers, the ends of other widths against the machine's numbers, and how
-//! many gates each operation has.
+//! Every pair of 8-bit words against the typed numbers, the ends of other widths against the machine's numbers, every pair
+//! of words of 1 to 3 bits against whole numbers, and how many gates each operation has.
 mod ends;
+mod small;
 
 use super::*;
 use kv_base::NoMemory;
@@ -10,14 +11,15 @@ use std::process::Abort;
 use std::test::Fail;
 
 impl Circuit {
-    /// Evaluates the circuit on pairs of words, each of which gives a pattern.
+    /// Evaluates the circuit on pairs of words of two widths, each of which gives a pattern.
     fn run(
         &self,
         alloc: Global,
         pairs: &[(u128, u128)],
         width: usize,
+        other: usize,
     ) -> Result<Vec<u128>, NoMemory> {
-        let inputs = inputs(alloc, pairs, width)?;
+        let inputs = inputs(alloc, pairs, width, other)?;
         evaluated(alloc, &self.gates, &inputs)
     }
 
@@ -78,7 +80,7 @@ fn row_agrees(
         let b = least.wrapping_add(i128::from(step));
         pairs.push((a.cast_unsigned(), b.cast_unsigned()))?;
     }
-    let truths = circuit.run(alloc, &pairs, 8)?;
+    let truths = circuit.run(alloc, &pairs, 8, 8)?;
     let mut compared = 0u32;
     for (lane, pair) in pairs.iter().enumerate() {
         let b = pair.1.cast_signed();
@@ -130,9 +132,9 @@ const COUNTS: [(Operation, usize, usize, usize); 8] = [
     (Operation::Add, 36, 156, 316),
     (Operation::Sub, 36, 156, 316),
     (Operation::Mul, 338, 5_954, 24_194),
-    (Operation::Div, 360, 4_560, 17_328),
-    (Operation::ShiftLeft, 68, 454, 1_095),
-    (Operation::ShiftRight, 63, 465, 1_134),
+    (Operation::Div, 377, 4_625, 17_457),
+    (Operation::ShiftLeft, 82, 514, 1_218),
+    (Operation::ShiftRight, 75, 523, 1_255),
     (Operation::Less, 29, 125, 253),
     (Operation::Equal, 15, 63, 127),
 ];
@@ -144,6 +146,17 @@ fn gate_counts(rt: HostRuntime) -> Result<(), Fail> {
             let circuit = Circuit::new(rt.alloc(), operation, width, true)?;
             let found = gate_count(&circuit.gates);
             assert_eq!(rt; found, count, "{operation:?} of {width} bits");
+        }
+    }
+    Ok(())
+}
+
+#[test]
+fn comparisons_have_few_gates(rt: HostRuntime) -> Result<(), Fail> {
+    for width in 1..=40usize {
+        for signed in [false, true] {
+            let circuit = Circuit::new(rt.alloc(), Operation::Less, width, signed)?;
+            assert_eq!(rt; gate_count(&circuit.gates), 4 * width - 3, "{width} bits");
         }
     }
     Ok(())

@@ -66,6 +66,7 @@ fn exact_signed(operation: Operation, a: i128, b: i128) -> Option<(i128, bool)> 
         Operation::Mul => Some(a.overflowing_mul(b)),
         Operation::Div if b != 0 => Some((a.wrapping_div(b), a.checked_div(b).is_none())),
         Operation::Rem if b != 0 => Some((a.wrapping_rem(b), false)),
+        Operation::Div | Operation::Rem => Some((0, false)),
         Operation::Less => Some((i128::from(a < b), false)),
         Operation::Bits(operation) => {
             let bits = exact_bits(operation, a.cast_unsigned(), b.cast_unsigned());
@@ -83,6 +84,7 @@ fn exact_unsigned(operation: Operation, a: u128, b: u128) -> Option<(u128, bool)
         Operation::Mul => Some(a.overflowing_mul(b)),
         Operation::Div if b != 0 => Some((a / b, false)),
         Operation::Rem if b != 0 => Some((a % b, false)),
+        Operation::Div | Operation::Rem => Some((0, false)),
         Operation::Less => Some((u128::from(a < b), false)),
         Operation::Equal => Some((u128::from(a == b), false)),
         Operation::Select => Some((if a & 1 == 1 { a } else { b }, false)),
@@ -91,22 +93,39 @@ fn exact_unsigned(operation: Operation, a: u128, b: u128) -> Option<(u128, bool)
     }
 }
 
-/// A shift of a number with a sign by a distance below the width, and whether a bit was lost.
-fn shifted_signed(operation: Operation, a: i128, distance: u32) -> Option<(i128, bool)> {
-    let up = a.wrapping_shl(distance);
+/// A shift of a number with a sign, and whether a bit was lost. By the width and more the result is 0.
+fn shifted_signed(
+    operation: Operation,
+    a: i128,
+    distance: u128,
+    width: u32,
+) -> Option<(i128, bool)> {
+    let is_near = distance < u128::from(width);
+    let places = if is_near { distance as u32 } else { 0 };
+    let up = a.wrapping_shl(places);
     match operation {
-        Operation::ShiftLeft => Some((up, a < 0 || up.wrapping_shr(distance) != a)),
-        Operation::ShiftRight => Some((a.wrapping_shr(distance), false)),
+        Operation::ShiftLeft if is_near => Some((up, a < 0 || up.wrapping_shr(places) != a)),
+        Operation::ShiftRight if is_near => Some((a.wrapping_shr(places), false)),
+        Operation::ShiftLeft => Some((0, a < 0)),
+        Operation::ShiftRight => Some((0, false)),
         _ => None,
     }
 }
 
 /// The same without signs.
-fn shifted_unsigned(operation: Operation, a: u128, distance: u32) -> Option<(u128, bool)> {
-    let up = a.wrapping_shl(distance);
+fn shifted_unsigned(
+    operation: Operation,
+    a: u128,
+    distance: u128,
+    width: u32,
+) -> Option<(u128, bool)> {
+    let is_near = distance < u128::from(width);
+    let places = if is_near { distance as u32 } else { 0 };
+    let up = a.wrapping_shl(places);
     match operation {
-        Operation::ShiftLeft => Some((up, up.wrapping_shr(distance) != a)),
-        Operation::ShiftRight => Some((a.wrapping_shr(distance), false)),
+        Operation::ShiftLeft if is_near => Some((up, up.wrapping_shr(places) != a)),
+        Operation::ShiftRight if is_near => Some((a.wrapping_shr(places), false)),
+        Operation::ShiftLeft | Operation::ShiftRight => Some((0, false)),
         _ => None,
     }
 }
@@ -114,22 +133,16 @@ fn shifted_unsigned(operation: Operation, a: u128, distance: u32) -> Option<(u12
 /// The bits of the result of two words with a sign, and whether the exact result fits.
 fn want_signed(operation: Operation, a: u128, b: u128, width: u32) -> Option<(u128, bool)> {
     let (x, y) = (signed(a, width), signed(b, width));
-    let (exact, over) = if b < u128::from(width) {
-        exact_signed(operation, x, y).or(shifted_signed(operation, x, b as u32))?
-    } else {
-        exact_signed(operation, x, y)?
-    };
+    let (exact, over) = exact_signed(operation, x, y).or(shifted_signed(operation, x, b, width))?;
     let value = lowest(exact.cast_unsigned(), width);
     Some((value, !over && signed(value, width) == exact))
 }
 
 /// The same of two words without signs.
 fn want_unsigned(operation: Operation, a: u128, b: u128, width: u32) -> Option<(u128, bool)> {
-    let (exact, over) = if b < u128::from(width) {
-        exact_unsigned(operation, a, b).or(shifted_unsigned(operation, a, b as u32))?
-    } else {
-        exact_unsigned(operation, a, b)?
-    };
+    let (exact, over) = exact_unsigned(operation, a, b).or(shifted_unsigned(
+        operation, a, b, width,
+    ))?;
     let value = lowest(exact, width);
     Some((value, !over && value == exact))
 }
@@ -170,7 +183,7 @@ fn ends_agree(
     let bits = width.max(1) as usize;
     let circuit = Circuit::new(alloc, operation, bits, is_signed)?;
     let pairs = pairs_of_ends(alloc, width)?;
-    let truths = circuit.run(alloc, &pairs, bits)?;
+    let truths = circuit.run(alloc, &pairs, bits, bits)?;
     let says_fits = circuit.fits.is_some() && operation != Operation::Rem;
     let mut compared = 0u32;
     for (lane, pair) in pairs.iter().enumerate() {
@@ -201,7 +214,7 @@ fn width_agrees(
 
 #[test]
 fn ends_with_signs(rt: HostRuntime) -> Result<(), Fail> {
-    for (width, pairs) in [(1, 396), (7, 420), (32, 420), (64, 420), (128, 420)] {
+    for (width, pairs) in [(1, 468), (7, 468), (32, 468), (64, 468), (128, 468)] {
         assert_eq!(rt;
             width_agrees(&rt, rt.alloc(), width, true)?,
             pairs,
@@ -213,7 +226,7 @@ fn ends_with_signs(rt: HostRuntime) -> Result<(), Fail> {
 
 #[test]
 fn ends_without_signs(rt: HostRuntime) -> Result<(), Fail> {
-    for (width, pairs) in [(1, 468), (7, 492), (32, 492), (64, 492), (128, 492)] {
+    for (width, pairs) in [(1, 540), (7, 540), (32, 540), (64, 540), (128, 540)] {
         assert_eq!(rt;
             width_agrees(&rt, rt.alloc(), width, false)?,
             pairs,

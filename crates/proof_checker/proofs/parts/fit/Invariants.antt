@@ -1,10 +1,12 @@
-use Rattle.std.proofs.Common.{ℕ, ◌≡◌, ◌<◌, get_or, length}
+use Rattle.std.proofs.Common.{◌≡◌, ◌-◌, length}
 use Rattle.proof_checker.specs.Parts.{IsReady}
 use Rattle.proof_checker.proofs.parts.fit.Given as goal
 
-abbrev pub invariant-loop-lit : goal.invariant-loop-lit
-invariant-loop-lit l = record {
+abbrev pub invariant-rooms : goal.invariant-rooms
+invariant-rooms l = record {
   ready : IsReady l.parts;
   store : l.parts.store ≡ l.initial.parts.store;
-  room : (k : ℕ) → k < l.lit-index → get_or l.lits k 0 < length l.parts.trail.truth.items;
 }
+
+abbrev pub decreases-rooms : goal.decreases-rooms
+decreases-rooms l = l.room - length l.parts.trail.truth.items

@@ -3,7 +3,7 @@ use Rattle.std.proofs.lemmas.List.{get_or_read}
 use Rattle.std.proofs.lemmas.List.Elements.{Contains-get_or}
 use Rattle.sat_clause.specs.Literals.{complement_of}
 use Rattle.sat_engine.specs.declared.trail.Reason.TheVariants.{Assumed}
-use Rattle.sat_engine.specs.declared.trail.Step.{Step}
+use Rattle.sat_engine.specs.declared.trail.SetLiteral.{SetLiteral}
 use Rattle.sat_engine.specs.Trail.{IsSet}
 use Rattle.sat_engine.proofs.Trails.{each_Contains}
 use Rattle.proof_checker.proofs.Bases.{Refuted-clash, IsBase-assume, IsBase-wider, IsFront-push, IsFront-refl, set_push, set_last}
@@ -37,7 +37,7 @@ loop-lit-preserved c =
     let A : List ℕ = c.args.asked.now in
     let i : ℕ = c.loop-lit.lit-index in
     let l : ℕ = get_or A i 0 in
-    let s : Step = record { lit = l; reason = Assumed } in
+    let s : SetLiteral = record { lit = l; reason = Assumed } in
     record {
       base = IsBase-assume F A t.steps.items n.steps.items l c.loop-lit.invariant.base (Contains-get_or A i 0 c.loop-lit-test.true) c.in_ok-push.ensures.ok;
       front = IsFront-push c.args.trail.now.steps.items t.steps.items n.steps.items s c.loop-lit.invariant.front c.in_ok-push.ensures.ok;

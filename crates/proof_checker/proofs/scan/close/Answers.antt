@@ -3,7 +3,7 @@ use Rattle.std.proofs.lemmas.Bool.{false_from_ne_true}
 use Rattle.std.proofs.lemmas.List.{get_or_default, length_push}
 use Rattle.sat_clause.specs.Propagation.{clause_at}
 use Rattle.sat_engine.specs.declared.trail.Reason.TheVariants.{Clause}
-use Rattle.sat_engine.specs.declared.trail.Step.{Step}
+use Rattle.sat_engine.specs.declared.trail.SetLiteral.{SetLiteral}
 use Rattle.sat_engine.proofs.Trails.{IsTrail-length}
 use Rattle.sat_engine.proofs.Growing.{Grows-trans, Grows-imply}
 use Rattle.proof_checker.specs.Scan.{IsSettled, ScanSays}
@@ -55,7 +55,7 @@ rounds-smaller c =
     let T : List Bool = t.truth.items in
     let h : ScanSays F T (OneOf c.in-Unit.i c.in-Unit.m) = subst (λ (x : List Bool). ScanSays F x (OneOf c.in-Unit.i c.in-Unit.m)) c.deref.ensures.value c.in-Unit.ensures in
     let n = c.push.new.self in
-    let s : Step = record { lit = c.in-Unit.m; reason = Clause c.in-Unit.i } in
+    let s : SetLiteral = record { lit = c.in-Unit.m; reason = Clause c.in-Unit.i } in
     let len : length n.steps.items ≡ length t.steps.items + 1 = ap length c.in_ok-push-in-Unit.ensures.ok ∙ length_push t.steps.items s in
     omega (arith, len, c.push.ensures.size, c.propagate.ensures.size, c.propagate.ensures.grows.longer, IsTrail-length n.steps.items n.truth.items n.place.items n.ok, n.ok.even)
 

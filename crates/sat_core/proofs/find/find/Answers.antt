@@ -1,6 +1,7 @@
 use Rattle.std.proofs.Common.{◌≡◌, ◌≢◌, ◌+◌, length, subst, ap, ◌∙◌, arith}
 use Rattle.sat_search.specs.declared.turn.Turn.{Turn}
 use Rattle.sat_search.specs.Turn.{TurnSays}
+use Rattle.sat_core.specs.Counts.{raised}
 use Rattle.sat_core.proofs.Finds.{grown_learnt, grown_same, smaller_learnt, asked_more}
 use Rattle.sat_core.proofs.find.find.Goals as goal
 
@@ -66,8 +67,7 @@ turns-preserved g c =
       ready = h.0;
       grown = t.0;
       size = h.1 ∙ i.size;
-      poll = stop.ready;
-      held = stop.held ∙ i.held;
+      poll = record { again = stop.ready; same = stop.held ∙ i.poll.same };
       yeses = stop.no c.if-stop.false ∙ i.yeses;
       asks = asked_more (length p.store) (length m.store) (length q.store) (g.P.Poll.asks c.args.poll.now) (g.P.Poll.asks c.turns.poll) (g.P.Poll.asks c.stop.new.self) t.1 longer i.asks stop.asks;
       counted = λ b.
@@ -75,4 +75,34 @@ turns-preserved g c =
           let ne : c.counted-learnt.result ≢ c.args.budget = c.is_spent.ensures.not_spent c.if-is_spent.false b in
           let k = i.counted b in
           (omega (arith, t.1, k, one), omega (arith, k, one, ne));
+    }
+
+pub returns-then-stop-clause-asked : goal.returns-then-stop-clause-asked
+returns-then-stop-clause-asked g c =
+    let p = c.args.parts.now in
+    let m = c.turns.parts in
+    let q = c.turn_once.new.parts in
+    let i = c.turns.invariant in
+    let h = subst (λ (x : Turn). TurnSays c.args.assumed.now m q x) c.in-Learnt.is c.in_ok-turn_once.ensures in
+    let t = grown_learnt c.args.assumed.now p.store (length p.trail.truth.items) m q i.grown i.size h in
+    let stop = c.stop.ensures in
+    let longer = i.grown.longer in
+    record {
+      asked = asked_more (length p.store) (length m.store) (length q.store) (g.P.Poll.asks c.args.poll.now) (g.P.Poll.asks c.turns.poll) (g.P.Poll.asks c.stop.new.self) t.1 longer i.asks stop.asks;
+      said_yes = stop.yes c.if-stop.true ∙ ap raised i.yeses;
+    }
+
+pub returns-then-is_spent-clause-asked : goal.returns-then-is_spent-clause-asked
+returns-then-is_spent-clause-asked g c =
+    let p = c.args.parts.now in
+    let m = c.turns.parts in
+    let q = c.turn_once.new.parts in
+    let i = c.turns.invariant in
+    let h = subst (λ (x : Turn). TurnSays c.args.assumed.now m q x) c.in-Learnt.is c.in_ok-turn_once.ensures in
+    let t = grown_learnt c.args.assumed.now p.store (length p.trail.truth.items) m q i.grown i.size h in
+    let stop = c.stop.ensures in
+    let longer = i.grown.longer in
+    record {
+      asked = asked_more (length p.store) (length m.store) (length q.store) (g.P.Poll.asks c.args.poll.now) (g.P.Poll.asks c.turns.poll) (g.P.Poll.asks c.stop.new.self) t.1 longer i.asks stop.asks;
+      said_yes = stop.no c.if-stop.false ∙ i.yeses;
     }

@@ -2,6 +2,7 @@ use Rattle.std.proofs.Common.{◌≡◌, ◌+◌, ◌-◌, ◌<◌, ◌≤◌, l
 use Rattle.sat_core.specs.Counts.{raised_by}
 use Rattle.sat_search.specs.State.{word, IsReady}
 use Rattle.sat_core.specs.Finding.{IsGrown}
+use Rattle.sat_core.specs.Polling.{StaysReady}
 use Rattle.sat_core.proofs.Finds.{left}
 use Rattle.sat_core.proofs.find.find.Given as goal
 
@@ -10,8 +11,7 @@ invariant-turns g l = record {
   ready : IsReady l.assumed l.parts;
   grown : IsGrown l.initial.parts.store l.parts.store (length l.initial.parts.trail.truth.items);
   size : length l.parts.trail.truth.items ≡ length l.initial.parts.trail.truth.items;
-  poll : g.P.Poll.ready l.poll;
-  held : g.P.Poll.held l.poll ≡ g.P.Poll.held l.initial.poll;
+  poll : StaysReady g.P.Poll.ready g.P.Poll.held l.initial.poll l.poll;
   yeses : g.P.Poll.yeses l.poll ≡ g.P.Poll.yeses l.initial.poll;
   asks : raised_by (length l.parts.store - length l.initial.parts.store) (g.P.Poll.asks l.initial.poll) ≤ g.P.Poll.asks l.poll;
   counted : 0 < l.budget → (length l.parts.store ≡ length l.initial.parts.store + l.learnt) × (l.learnt < l.budget);

@@ -1,6 +1,6 @@
 use Rattle.std.proofs.Common.{◌≡◌, ◌+◌, ◌++◌, List, [], ◌∷◌, Bool, false, length, sym, ap, subst, ◌∙◌, arith}
 use Rattle.std.proofs.lemmas.List.{length-append, length_push}
-use Rattle.sat_engine.specs.declared.trail.Step.{Step}
+use Rattle.sat_engine.specs.declared.trail.SetLiteral.{SetLiteral}
 use Rattle.sat_engine.specs.Trail.{IsSet}
 use Rattle.sat_index.specs.declared.index.Occurrence.{Occurrence}
 use Rattle.sat_index.specs.Listed.{IsIndexed}
@@ -23,7 +23,7 @@ returns-clause-idle c =
     let lists = r.lists in let flagged = r.flags in let marked = r.marks in let idle = c.requires.idle.idle in
     record {
       ready = record {
-        state = subst (λ (x : List Step). IsState p.store [] x p.start) (sym steps) r.state;
+        state = subst (λ (x : List SetLiteral). IsState p.store [] x p.start) (sym steps) r.state;
         range = AreInRange-wider p.store (length p.trail.truth.items) (length t.truth.items) (omega arith) r.range;
         few = r.few;
         indexed = subst (λ (x : List (List Occurrence)). IsIndexed p.store x) (sym twice) (IsIndexed-wider p.store (p.index ++ [] ∷ []) (IsIndexed-wider p.store p.index r.indexed));

@@ -1,10 +1,11 @@
-use Rattle.std.proofs.Common.{ℕ, ◌≡◌, ◌*◌, ◌/◌, ◌≤◌, List, Bool, length, sym, ap, subst, ◌∙◌, arith}
+use Rattle.std.proofs.Common.{ℕ, ◌≡◌, ◌-◌, ◌*◌, ◌/◌, ◌≤◌, List, Bool, length, sym, ap, subst, ◌∙◌, arith}
 use Rattle.sat_search.specs.declared.parts.Parts.{Parts}
-use Rattle.sat_core.specs.Finding.{IsGrown}
-use Rattle.sat_core.specs.Solving.{IsAnswer, IsLearnt, IsRoom}
+use Rattle.sat_core.specs.Finding.{IsGrown, is_stopped as stopped_search}
+use Rattle.sat_core.specs.Polling.{WasAsked}
+use Rattle.sat_core.specs.Solving.{IsAnswer, IsLearnt, IsRoom, is_stopped}
 use Rattle.sat_core.proofs.Idle.{IsReady-idle}
 use Rattle.sat_core.proofs.Rooms.{IsRoom-wider}
-use Rattle.sat_core.proofs.Answering.{IsLearnt-grown, answer_says}
+use Rattle.sat_core.proofs.Answering.{IsLearnt-grown, answer_says, stopped_same}
 use Rattle.sat_core.proofs.solver.search.Goals as goal
 
 pub find-requires-clause-ready : goal.find-requires-clause-ready
@@ -47,3 +48,16 @@ returns-clause-answer g c =
     let l : IsLearnt n a.store r.store = learnt a p q r c.in_ok-fit.ensures.store c.retreat.ensures.store (omega arith) f.grown in
     answer_says n c.args.assumed.now p q a.store r.store c.args.budget c.in_ok-found.found c.in_ok-answer.answer (sym c.in_ok-fit.ensures.store) c.retreat.ensures.store (ap (λ (x : ℕ). x / 2) size) l f
     (subst (λ (x : List Bool). IsAnswer x c.in_ok-found.found c.in_ok-answer.answer) c.deref.ensures.value c.in_ok-answer.ensures)
+
+pub returns-clause-asked : goal.returns-clause-asked
+returns-clause-asked g c =
+    let e = c.in_ok-found.ensures in
+    let a = c.args.parts.now in
+    let p = c.fit.new.parts in
+    let q = c.find.new.parts in
+    let r = c.retreat.new.parts in
+    let before = g.P.Poll.asks c.args.poll.now in
+    let many : length q.store - length p.store ≡ length r.store - length a.store = omega (arith, ap length c.in_ok-fit.ensures.store, ap length c.retreat.ensures.store) in
+    let same : stopped_search c.in_ok-found.found ≡ is_stopped c.in_ok-answer.answer = stopped_same q.trail.truth.items c.in_ok-found.found c.in_ok-answer.answer (subst (λ (x : List Bool). IsAnswer x c.in_ok-found.found c.in_ok-answer.answer) c.deref.ensures.value c.in_ok-answer.ensures) in
+    subst (λ (b : Bool). WasAsked g.P.Poll.asks g.P.Poll.yeses c.args.poll.now c.find.new.poll (length r.store - length a.store) b) same
+    (subst (λ (n : ℕ). WasAsked g.P.Poll.asks g.P.Poll.yeses c.args.poll.now c.find.new.poll n (stopped_search c.in_ok-found.found)) many e.asked)

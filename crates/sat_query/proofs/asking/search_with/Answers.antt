@@ -1,12 +1,14 @@
-use Rattle.std.proofs.Common.{ℕ, ◌≡◌, ◌+◌, ◌-◌, ◌^◌, ◌<◌, ◌≤◌, ◌++◌, List, [], ◌∷◌, Bool, length, drop, min, refl, sym, ap, subst, ◌∙◌, arith}
+use Rattle.std.proofs.Common.{ℕ, ◌≡◌, ◌+◌, ◌-◌, ◌^◌, ◌<◌, ◌≤◌, ◌++◌, List, [], ◌∷◌, Bool, if◌then◌else◌, length, drop, min, refl, sym, ap, subst, ◌∙◌, arith}
 use Rattle.std.proofs.lemmas.List.{length_push}
 use Rattle.sat_clause.specs.Literals.{AreBelow, ClausesAreBelow, MeetsAll, AreTrue, truths}
 use Rattle.sat_clause.specs.Propagation.{Refuted, Spent}
 use Rattle.sat_core.specs.declared.solver.Answer.{Answer}
-use Rattle.sat_core.specs.Solving.{AnswerSays, IsLearnt}
-use Rattle.sat_core.specs.Counts.{raised_by}
+use Rattle.sat_core.specs.Solving.{AnswerSays, IsLearnt, is_stopped as stopped_search}
+use Rattle.sat_core.specs.Counts.{raised, raised_by}
 use Rattle.proof_checker.specs.Checking.{IsLearnt as IsLearntLog}
-use Rattle.sat_query.specs.Asking.{NoneMeets, IsShort}
+use Rattle.sat_query.specs.Asking.{NoneMeets, IsShort, is_stopped}
+use Rattle.sat_query.specs.declared.asking.Asked.{Asked}
+use Rattle.sat_query.specs.declared.asking.Asked.TheVariants.{Sat, Unsat, Spent as SpentWith, Stopped}
 use Rattle.sat_query.proofs.Logs.{met_front, below_front, log_length, refutation, learnt_log, spent}
 use Rattle.sat_query.proofs.asking.search_with.Goals as goal
 
@@ -77,35 +79,47 @@ returns-in-Spent-clause-answer g c = λ n.
       spent = λ all. w.1 (e.vars.least n (c.requires.vars n all) (none_asked n c.new.result c.new.ensures));
     }
 
--- as many asks as clauses of the log
-often : (n : ℕ) (F G L : List (List ℕ)) (many before now : ℕ) → IsLearnt n F G → L ≡ drop (length F) G → many ≡ length L → raised_by (length G - length F) before ≤ now → raised_by many before ≤ now
-often n F G L many before now l log is h =
-    let size = log_length n F G L l log in
-    let same : many ≡ length G - length F = omega arith in
-    subst (λ (k : ℕ). raised_by k before ≤ now) (sym same) h
+-- as many asks as clauses of the log were learnt, and a yes exactly where the answer says so
+asked_for : (n : ℕ) (F G L : List (List ℕ)) (many : ℕ) (answer : Answer) (asked : Asked) (before now had said : ℕ) → IsLearnt n F G → L ≡ drop (length F) G → many ≤ length L → stopped_search answer ≡ is_stopped asked
+    → raised_by (length G - length F) before ≤ now → said ≡ (if stopped_search answer then raised had else had) → (raised_by many before ≤ now) × (said ≡ (if is_stopped asked then raised had else had))
+asked_for n F G L many answer asked before now had said l log few same h y =
+    let size = log_length n F G L l log in (
+      no_less (length G - length F) many before now (2 ^ 64 - 1) (omega arith) h,
+      subst (λ (b : Bool). said ≡ (if b then raised had else had)) same y,
+    )
+  where
+    no_less : (many few before now last : ℕ) → few ≤ many → min (before + many) last ≤ now → min (before + few) last ≤ now
+    no_less many few before now last le h = omega arith
 
-pub returns-in-Unsat-clause-asks : goal.returns-in-Unsat-clause-asks
-returns-in-Unsat-clause-asks g c =
+pub returns-in-Sat-clause-asked : goal.returns-in-Sat-clause-asked
+returns-in-Sat-clause-asked g c =
+    let e = c.in_ok-found.ensures in
+    let s = c.args.solver.now in
+    let t = c.solve-2.new.self in
+    let w = asked_for t.vars s.clauses t.clauses t.log 0 c.in_ok-found.field-0 (Sat c.in-Sat.found) (g.P.Poll.asks c.args.poll.now) (g.P.Poll.asks c.solve-2.new.poll) (g.P.Poll.yeses c.args.poll.now) (g.P.Poll.yeses c.solve-2.new.poll) e.learns.learnt (learnt s.clauses t.clauses t.log s.log e.learns.log c.requires.log) (omega arith) (ap stopped_search c.in-Sat.is) e.asked.asked e.asked.said_yes in
+    record { asked = w.0; said_yes = w.1 }
+
+pub returns-in-Unsat-clause-asked : goal.returns-in-Unsat-clause-asked
+returns-in-Unsat-clause-asked g c =
     let e = c.in_ok-found.ensures in
     let s = c.args.solver.now in
     let t = c.solve-2.new.self in
     let is : c.in_ok-log-in-Unsat.log ≡ t.log ++ [] ∷ [] = c.in_ok-log-in-Unsat.ensures ∙ ap (λ (x : List (List ℕ)). x ++ [] ∷ []) c.take_log.ensures.log in
-    often t.vars s.clauses t.clauses t.log (length c.in_ok-log-in-Unsat.log - 1) (g.P.Poll.asks c.args.poll.now) (g.P.Poll.asks c.solve-2.new.poll) e.learns.learnt (learnt s.clauses t.clauses t.log s.log e.learns.log c.requires.log) (omega (arith, ap length is, length_push t.log [])) e.asks
+    let w = asked_for t.vars s.clauses t.clauses t.log (length c.in_ok-log-in-Unsat.log - 1) c.in_ok-found.field-0 (Unsat c.in_ok-log-in-Unsat.log) (g.P.Poll.asks c.args.poll.now) (g.P.Poll.asks c.solve-2.new.poll) (g.P.Poll.yeses c.args.poll.now) (g.P.Poll.yeses c.solve-2.new.poll) e.learns.learnt (learnt s.clauses t.clauses t.log s.log e.learns.log c.requires.log) (omega (arith, ap length is, length_push t.log [])) (ap stopped_search c.in-Unsat.is) e.asked.asked e.asked.said_yes in
+    record { asked = w.0; said_yes = w.1 }
 
-pub returns-in-Spent-clause-asks : goal.returns-in-Spent-clause-asks
-returns-in-Spent-clause-asks g c =
+pub returns-in-Spent-clause-asked : goal.returns-in-Spent-clause-asked
+returns-in-Spent-clause-asked g c =
     let e = c.in_ok-found.ensures in
     let s = c.args.solver.now in
     let t = c.solve-2.new.self in
-    often t.vars s.clauses t.clauses t.log (length c.take_log-in-Spent.result) (g.P.Poll.asks c.args.poll.now) (g.P.Poll.asks c.solve-2.new.poll) e.learns.learnt (learnt s.clauses t.clauses t.log s.log e.learns.log c.requires.log) (ap length c.take_log-in-Spent.ensures.log) e.asks
+    let w = asked_for t.vars s.clauses t.clauses t.log (length c.take_log-in-Spent.result) c.in_ok-found.field-0 (SpentWith c.take_log-in-Spent.result) (g.P.Poll.asks c.args.poll.now) (g.P.Poll.asks c.solve-2.new.poll) (g.P.Poll.yeses c.args.poll.now) (g.P.Poll.yeses c.solve-2.new.poll) e.learns.learnt (learnt s.clauses t.clauses t.log s.log e.learns.log c.requires.log) (omega (arith, ap length c.take_log-in-Spent.ensures.log)) (ap stopped_search c.in-Spent.is) e.asked.asked e.asked.said_yes in
+    record { asked = w.0; said_yes = w.1 }
 
--- the count never falls
-no_less : (many before now last : ℕ) → min (before + many) last ≤ now → min (before + 0) last ≤ now
-no_less many before now last h = omega arith
-
-pub returns-in-Sat-clause-asks : goal.returns-in-Sat-clause-asks
-returns-in-Sat-clause-asks g c =
+pub returns-clause-asked : goal.returns-clause-asked
+returns-clause-asked g c =
     let e = c.in_ok-found.ensures in
     let s = c.args.solver.now in
     let t = c.solve-2.new.self in
-    no_less (length t.clauses - length s.clauses) (g.P.Poll.asks c.args.poll.now) (g.P.Poll.asks c.solve-2.new.poll) (2 ^ 64 - 1) e.asks
+    let w = asked_for t.vars s.clauses t.clauses t.log 0 c.in_ok-found.field-0 Stopped (g.P.Poll.asks c.args.poll.now) (g.P.Poll.asks c.solve-2.new.poll) (g.P.Poll.yeses c.args.poll.now) (g.P.Poll.yeses c.solve-2.new.poll) e.learns.learnt (learnt s.clauses t.clauses t.log s.log e.learns.log c.requires.log) (omega arith) (ap stopped_search c.in-Stopped.is) e.asked.asked e.asked.said_yes in
+    record { asked = w.0; said_yes = w.1 }

@@ -2,7 +2,7 @@ use Rattle.std.proofs.Common.{ℕ, ◌≡◌, ◌*◌, ◌<◌, ◌≤◌, ◌++
 use Rattle.sat_clause.specs.Literals.{complement_of}
 use Rattle.sat_clause.specs.Propagation.{clause_at}
 use Rattle.std.specs.List.{Contains}
-use Rattle.sat_engine.specs.declared.trail.Step.{Step}
+use Rattle.sat_engine.specs.declared.trail.SetLiteral.{SetLiteral}
 use Rattle.sat_engine.specs.Trail.{lit_at}
 use Rattle.sat_search.specs.Mark.{IsMarkedAt, IsNext, MarkedAll}
 use Rattle.sat_search.specs.Analysis.{IsLearnt, IsWitness}
@@ -16,7 +16,7 @@ pub loop-witness-init : goal.loop-witness-init
 loop-witness-init c =
     let t = c.args.trail.now in
     let F : List (List ℕ) = c.args.store.now in
-    let steps : List Step = t.steps.items in
+    let steps : List SetLiteral = t.steps.items in
     let cl : List ℕ = clause_at F c.args.conflict in
     let m1 = MarkedAll-in c.get.result.now cl c.deref.result.now t.place.items c.args.start c.args.floor c.index.result.now.lit c.args.marks.now c.mark_all.new.marks c.new-low.result.items c.mark_all.new.low.items [] c.get.ensures c.deref.ensures.value c.new-low.ensures.items c.in_ok-mark_all.ensures in
     let e : c.index.result.now.lit ≡ lit_at steps c.args.top = lit_read steps c.args.top c.index.result.now c.requires.top c.index.ensures in
@@ -30,7 +30,7 @@ loop-witness-init c =
     }
 
 -- no marked place is left from `floor` on but the last one
-none_left : (steps : List Step) (old new : List Bool) (floor at : ℕ) (o : Option ℕ) → ((i : ℕ) → floor ≤ i → i < length steps → IsMarkedAt steps new i → IsMarkedAt steps old i) → at < length steps → ((w : ℕ) → o ≡ Some w → ⊥) → IsWitness steps old floor at o → IsNext steps new floor at None
+none_left : (steps : List SetLiteral) (old new : List Bool) (floor at : ℕ) (o : Option ℕ) → ((i : ℕ) → floor ≤ i → i < length steps → IsMarkedAt steps new i → IsMarkedAt steps old i) → at < length steps → ((w : ℕ) → o ≡ Some w → ⊥) → IsWitness steps old floor at o → IsNext steps new floor at None
 none_left steps old new floor at o fewer lt off w = IsNext-fewer steps old new floor at fewer lt (IsNext-none steps old floor at o off w)
 
 pub returns-clause-learnt : goal.returns-clause-learnt

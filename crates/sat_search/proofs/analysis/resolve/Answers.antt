@@ -2,7 +2,7 @@ use Rattle.std.proofs.Common.{ℕ, ◌≡◌, ◌<◌, ◌/◌, List, length, ar
 use Rattle.sat_clause.specs.Propagation.{clause_at}
 use Rattle.sat_engine.specs.declared.trail.Reason.{Reason}
 use Rattle.sat_engine.specs.declared.trail.Reason.TheVariants.{Free, Assumed, Clause}
-use Rattle.sat_engine.specs.declared.trail.Step.{Step}
+use Rattle.sat_engine.specs.declared.trail.SetLiteral.{SetLiteral}
 use Rattle.sat_engine.specs.Trail.{lit_at, reason_at}
 use Rattle.sat_engine.specs.Grow.{IsImplied}
 use Rattle.sat_search.specs.Mark.{IsMarkedAt}
@@ -24,7 +24,7 @@ pub unreachable-requires-in-None : goal.unreachable-requires-in-None
 unreachable-requires-in-None c =
     let t = c.args.trail.now in
     let F : List (List ℕ) = c.args.store.now in
-    let steps : List Step = t.steps.items in
+    let steps : List SetLiteral = t.steps.items in
     let e : c.index-step.result.now.lit ≡ lit_at steps c.args.at = lit_read steps c.args.at c.index-step.result.now c.requires.at c.index-step.ensures in
     let w : IsMarkedAt steps (set c.args.marks.now (lit_at steps c.args.at / 2) false) c.args.witness = IsMarkedAt-other F steps t.truth.items t.place.items c.args.start c.args.floor c.requires.site c.args.witness c.args.at c.args.marks.now (omega arith) c.requires.at (omega arith) c.requires.witness.2 in
     let v = subst (λ (x : ℕ). IsMarkedAt steps (set c.args.marks.now (x / 2) false) c.args.witness) (sym e) w in
@@ -34,7 +34,7 @@ pub returns : goal.returns
 returns c =
     let t = c.args.trail.now in
     let F : List (List ℕ) = c.args.store.now in
-    let steps : List Step = t.steps.items in
+    let steps : List SetLiteral = t.steps.items in
     let e : c.index-step.result.now.lit ≡ lit_at steps c.args.at = lit_read steps c.args.at c.index-step.result.now c.requires.at c.index-step.ensures in
     let r : IsImplied F steps c.args.at (Clause c.in-Clause.n) = subst (λ (x : Reason). IsImplied F steps c.args.at x) (sym (reason_read steps c.args.at c.index-step.result.now c.requires.at c.index-step.ensures) ∙ c.in-Clause.is) (c.requires.site.implied c.args.at (omega arith) c.requires.at) in
     let m = MarkedAll-at c.get.result.now (clause_at F c.in-Clause.n) c.deref.result.now t.place.items c.args.start c.args.floor c.index-step.result.now.lit (lit_at steps c.args.at) c.args.marks.now c.mark_all.new.marks c.args.low.now.items c.mark_all.new.low.items c.get.ensures c.deref.ensures.value e c.in_ok-mark_all-in-Clause.ensures in
@@ -48,10 +48,10 @@ returns c =
     )
 
 -- the reason of what is resolved is a clause
-implied_at : (F : List (List ℕ)) (steps : List Step) (truth : List Bool) (place : List ℕ) (start floor at : ℕ) (r : Reason) → IsSite F steps truth place start floor → floor < at → at < length steps → reason_at steps at ≡ r → IsImplied F steps at r
+implied_at : (F : List (List ℕ)) (steps : List SetLiteral) (truth : List Bool) (place : List ℕ) (start floor at : ℕ) (r : Reason) → IsSite F steps truth place start floor → floor < at → at < length steps → reason_at steps at ≡ r → IsImplied F steps at r
 implied_at F steps truth place start floor at r site above within e = subst (λ (x : Reason). IsImplied F steps at x) e (site.implied at above within)
 
-never : (F : List (List ℕ)) (steps : List Step) (at : ℕ) (r : Reason) → IsImplied F steps at r → ((n : ℕ) → r ≡ Clause n → ⊥) → ⊥
+never : (F : List (List ℕ)) (steps : List SetLiteral) (at : ℕ) (r : Reason) → IsImplied F steps at r → ((n : ℕ) → r ≡ Clause n → ⊥) → ⊥
 never F steps at Free h off = h
 never F steps at Assumed h off = h
 never F steps at (Clause n) h off = off n refl

@@ -5,7 +5,7 @@ use Rattle.std.proofs.lemmas.List.{get_or_read, with_items_is, length-append}
 use Rattle.std.proofs.lemmas.List.Elements.{Contains-get_or}
 use Rattle.sat_clause.specs.Literals.{complement_of}
 use Rattle.sat_clause.specs.Propagation.{clause_at}
-use Rattle.sat_engine.specs.declared.trail.Step.{Step}
+use Rattle.sat_engine.specs.declared.trail.SetLiteral.{SetLiteral}
 use Rattle.sat_engine.specs.Trail.{IsSet}
 use Rattle.sat_engine.specs.Look.{AreInRange, InRange, AreFalse, AreFalseBut}
 use Rattle.sat_clause.specs.Propagation.{Includes}
@@ -70,7 +70,7 @@ returns-in-False c =
     subst (λ (x : List Bool). AreFalse d x) c.deref-in-Some-found.ensures.value
     (subst (λ (x : List ℕ). AreFalse x c.deref-in-Some-found.result.now) c.get.ensures c.in-False.ensures) in
     let w = j.within in
-    let state : IsState F A t.steps.items p.start = subst (λ (x : List Step). IsState F A x p.start) (sym j.is) (IsState-cut F A p.trail.steps.items p.start j.cut c.requires.ready.state j.start_le (omega arith)) in
+    let state : IsState F A t.steps.items p.start = subst (λ (x : List SetLiteral). IsState F A x p.start) (sym j.is) (IsState-cut F A p.trail.steps.items p.start j.cut c.requires.ready.state j.start_le (omega arith)) in
     let shorter = jump_length F p.trail.steps.items t.steps.items t.truth.items p.start cl j in (
       IsReady-make A p _ c.requires.ready state c.learn.ensures.size c.requires.ready.range c.requires.ready.few c.requires.ready.indexed refl fl_len un ml_len cl_no,
       record { size = c.learn.ensures.size },

@@ -2,7 +2,7 @@ use Rattle.std.proofs.Common.{ℕ, ◌≡◌, ◌<◌, ◌+◌, ◌/◌, List, l
 use Rattle.std.proofs.lemmas.List.{length-take-le}
 use Rattle.sat_clause.specs.Literals.{complement_of}
 use Rattle.sat_clause.proofs.Truths.{complement_variable}
-use Rattle.sat_engine.specs.declared.trail.Step.{Step}
+use Rattle.sat_engine.specs.declared.trail.SetLiteral.{SetLiteral}
 use Rattle.sat_engine.specs.Look.{AreInRange, InRange}
 use Rattle.sat_engine.specs.Trail.{IsTrail}
 use Rattle.sat_search.specs.Repair.{IsBack}
@@ -23,7 +23,7 @@ analyze-requires-clause-is_false c = λ k w.
     let m = c.rewind.new.trail in
     let e = c.next_choice-end.ensures in
     let p = c.requires.spot.until k w in
-    let u : IsTrail (take c.next_choice-end.result t.steps.items) m.truth.items t.place.items = subst (λ (x : List Step). IsTrail x m.truth.items t.place.items) c.rewind.ensures.steps (subst (λ (x : List ℕ). IsTrail m.steps.items m.truth.items x) c.rewind.ensures.place m.ok) in
+    let u : IsTrail (take c.next_choice-end.result t.steps.items) m.truth.items t.place.items = subst (λ (x : List SetLiteral). IsTrail x m.truth.items t.place.items) c.rewind.ensures.steps (subst (λ (x : List ℕ). IsTrail m.steps.items m.truth.items x) c.rewind.ensures.place m.ok) in
     set_kept t.steps.items t.truth.items m.truth.items t.place.items c.next_choice-end.result (complement_of k) t.ok u e.within (c.requires.is_false k w)
     (subst (λ (x : ℕ). get_or t.place.items x 0 < c.next_choice-end.result) (sym (complement_variable k)) (omega (arith, p, e.above)))
 

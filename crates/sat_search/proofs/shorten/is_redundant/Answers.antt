@@ -1,7 +1,7 @@
 use Rattle.std.proofs.Common.{ℕ, ◌≡◌, ◌*◌, ◌<◌, ◌≤◌, List, Bool, length, get_or, refl, sym, ap, ◌∙◌, arith}
 use Rattle.sat_clause.specs.Propagation.{clause_at}
 use Rattle.sat_engine.specs.declared.trail.Reason.TheVariants.{Clause}
-use Rattle.sat_engine.specs.declared.trail.Step.{Step}
+use Rattle.sat_engine.specs.declared.trail.SetLiteral.{SetLiteral}
 use Rattle.sat_engine.specs.Grow.{IsImplied}
 use Rattle.sat_engine.specs.Look.{InRange, AreInRange}
 use Rattle.sat_engine.specs.Trail.{lit_at}
@@ -10,7 +10,7 @@ use Rattle.sat_search.proofs.StepReads.{lit_read, reason_read, AreCovered-at}
 use Rattle.sat_search.proofs.shorten.is_redundant.Goals as goal
 
 -- the reason of a literal, as it is read
-implied_by : (F : List (List ℕ)) (steps : List Step) (truth : List Bool) (place : List ℕ) (start floor n at : ℕ) (x : Step) → IsSite F steps truth place start floor → at < length steps → x ≡ get_or steps at x → x.reason ≡ Clause n → IsImplied F steps at (Clause n)
+implied_by : (F : List (List ℕ)) (steps : List SetLiteral) (truth : List Bool) (place : List ℕ) (start floor n at : ℕ) (x : SetLiteral) → IsSite F steps truth place start floor → at < length steps → x ≡ get_or steps at x → x.reason ≡ Clause n → IsImplied F steps at (Clause n)
 implied_by F steps truth place start floor n at x site lt e r = site.reasons at n lt (sym (reason_read steps at x lt e) ∙ r)
 
 -- a clause's literals are in range of what is as long as the truths

@@ -1,6 +1,6 @@
 use Rattle.std.proofs.Common.{ℕ, ◌≡◌, ◌/◌, ◌<◌, ◌++◌, inl, inr, List, [], ◌∷◌, Bool, length, get_or, set, true, sym, ap, subst, ◌∙◌, arith}
 use Rattle.sat_clause.specs.Literals.{complement_of}
-use Rattle.sat_engine.specs.declared.trail.Step.{Step}
+use Rattle.sat_engine.specs.declared.trail.SetLiteral.{SetLiteral}
 use Rattle.sat_engine.specs.Trail.{lit_at}
 use Rattle.sat_search.specs.Analysis.{IsMarked}
 use Rattle.sat_search.proofs.Marks.{set-cases}
@@ -28,7 +28,7 @@ pub loop-at-preserved : goal.loop-at-preserved
 loop-at-preserved c =
     let t = c.args.trail.now in
     let F : List (List ℕ) = c.args._store.now in
-    let steps : List Step = t.steps.items in
+    let steps : List SetLiteral = t.steps.items in
     let marks : List Bool = c.loop-at.marks in
     let low : List ℕ = c.loop-at.low.items in
     let at : ℕ = get_or c.args.places.now c.loop-at.at-index 0 in

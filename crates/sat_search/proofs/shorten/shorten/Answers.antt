@@ -2,7 +2,7 @@ use Rattle.std.proofs.Common.{ℕ, ◌*◌, ◌/◌, ◌<◌, List, Bool, length
 use Rattle.std.proofs.lemmas.List.Elements.{Contains-get_or}
 use Rattle.sat_clause.specs.Literals.{complement_of}
 use Rattle.sat_clause.proofs.Truths.{complement_variable}
-use Rattle.sat_engine.specs.declared.trail.Step.{Step}
+use Rattle.sat_engine.specs.declared.trail.SetLiteral.{SetLiteral}
 use Rattle.sat_engine.specs.Trail.{IsSet, IsTrail}
 use Rattle.sat_engine.specs.Look.{InRange}
 use Rattle.sat_search.specs.Analysis.{IsMarked}
@@ -10,7 +10,7 @@ use Rattle.sat_search.proofs.Analyses.{IsMarked-listed}
 use Rattle.sat_search.proofs.shorten.shorten.Goals as goal
 
 -- the listed literals are in range of the marks
-low_range : (F : List (List ℕ)) (steps : List Step) (truth : List Bool) (place : List ℕ) (floor top : ℕ) (marks : List Bool) (low : List ℕ) → IsTrail steps truth place → IsMarked F truth place floor top marks low → InRange low (2 * length marks)
+low_range : (F : List (List ℕ)) (steps : List SetLiteral) (truth : List Bool) (place : List ℕ) (floor top : ℕ) (marks : List Bool) (low : List ℕ) → IsTrail steps truth place → IsMarked F truth place floor top marks low → InRange low (2 * length marks)
 low_range F steps truth place floor top marks low t m k lt =
     let l : ℕ = get_or low k 0 in
     let s : IsSet truth (complement_of l) = m.low_false l (Contains-get_or low k 0 lt) in

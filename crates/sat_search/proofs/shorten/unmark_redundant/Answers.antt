@@ -1,5 +1,5 @@
 use Rattle.std.proofs.Common.{ℕ, ◌≡◌, ◌-◌, ◌/◌, ◌<◌, List, Bool, length, get_or, set, false, sym, subst, arith}
-use Rattle.sat_engine.specs.declared.trail.Step.{Step}
+use Rattle.sat_engine.specs.declared.trail.SetLiteral.{SetLiteral}
 use Rattle.sat_engine.specs.Trail.{lit_at}
 use Rattle.sat_search.specs.Analysis.{IsMarked}
 use Rattle.sat_search.proofs.StepReads.{lit_read}
@@ -10,7 +10,7 @@ pub loop-left-preserved-then-is_redundant : goal.loop-left-preserved-then-is_red
 loop-left-preserved-then-is_redundant c =
     let t = c.args.trail.now in
     let F : List (List ℕ) = c.args.store.now in
-    let steps : List Step = t.steps.items in
+    let steps : List SetLiteral = t.steps.items in
     let marks : List Bool = c.loop-left.marks in
     let at : ℕ = get_or c.args.places.now (c.loop-left.left - 1) 0 in
     let lt : at < length steps = omega arith in

@@ -4,7 +4,7 @@ use Rattle.std.proofs.lemmas.List.{get_or_default}
 use Rattle.sat_clause.specs.Literals.{complement_of}
 use Rattle.sat_clause.specs.Propagation.{clause_at}
 use Rattle.sat_engine.specs.declared.trail.Reason.TheVariants.{Free, Assumed}
-use Rattle.sat_engine.specs.declared.trail.Step.{Step}
+use Rattle.sat_engine.specs.declared.trail.SetLiteral.{SetLiteral}
 use Rattle.sat_engine.specs.Trail.{IsSet, lit_at}
 use Rattle.sat_engine.proofs.Trails.{lit_at-last}
 use Rattle.sat_engine.proofs.Growing.{Before-set}
@@ -28,10 +28,10 @@ returns-in-Some c =
     let t = c.push.new.self in
     let A : List ℕ = c.args.assumed.now in
     let l : ℕ = c.in-Some.a in
-    let s : Step = record { lit = l; reason = Assumed } in
+    let s : SetLiteral = record { lit = l; reason = Assumed } in
     let e : t.steps.items ≡ p.trail.steps.items ++ s ∷ [] = c.in_ok-push-in-Some.ensures.ok in
     let why : Contains A (lit_at (p.trail.steps.items ++ s ∷ []) (length p.trail.steps.items)) = subst (λ (x : ℕ). Contains A x) (sym (lit_at-last p.trail.steps.items s)) c.in-Some.ensures.0 in
-    let state : IsState p.store A t.steps.items p.start = subst (λ (x : List Step). IsState p.store A x p.start) (sym e) (IsState-choose p.store A p.trail.steps.items p.start l Assumed c.requires.ready.state why (λ f a w. let bad : Assumed ≡ Free = f in cc)) in
+    let state : IsState p.store A t.steps.items p.start = subst (λ (x : List SetLiteral). IsState p.store A x p.start) (sym e) (IsState-choose p.store A p.trail.steps.items p.start l Assumed c.requires.ready.state why (λ f a w. let bad : Assumed ≡ Free = f in cc)) in
     let sz = c.in_ok-push-in-Some.ensures.size in (
       IsReady-make A p _ c.requires.ready state sz c.requires.ready.range c.requires.ready.few c.requires.ready.indexed refl refl c.requires.ready.unset refl c.requires.ready.clean,
       sz,
@@ -45,10 +45,10 @@ returns-in-Some-choose c =
     let t = c.push-in-Some-choose.new.self in
     let A : List ℕ = c.args.assumed.now in
     let l : ℕ = c.in-Some-choose.lit in
-    let s : Step = record { lit = l; reason = Free } in
+    let s : SetLiteral = record { lit = l; reason = Free } in
     let e : t.steps.items ≡ p.trail.steps.items ++ s ∷ [] = c.in_ok-push-in-Some-choose.ensures.ok in
     let all : (a : ℕ) → Contains A a → IsSet p.trail.truth.items a = c.in-None.ensures in
-    let state : IsState p.store A t.steps.items p.start = subst (λ (x : List Step). IsState p.store A x p.start) (sym e) (IsState-choose p.store A p.trail.steps.items p.start l Free c.requires.ready.state tt (λ f a w. Before-set p.trail.steps.items p.trail.truth.items p.trail.place.items p.trail.ok a (all a w))) in
+    let state : IsState p.store A t.steps.items p.start = subst (λ (x : List SetLiteral). IsState p.store A x p.start) (sym e) (IsState-choose p.store A p.trail.steps.items p.start l Free c.requires.ready.state tt (λ f a w. Before-set p.trail.steps.items p.trail.truth.items p.trail.place.items p.trail.ok a (all a w))) in
     let sz = c.in_ok-push-in-Some-choose.ensures.size in (
       IsReady-make A p _ c.requires.ready state sz c.requires.ready.range c.requires.ready.few c.requires.ready.indexed refl refl c.requires.ready.unset refl c.requires.ready.clean,
       sz,

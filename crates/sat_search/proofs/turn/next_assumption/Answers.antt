@@ -1,11 +1,11 @@
 use Rattle.std.proofs.Common.{ℕ, ◌<◌, List, Bool, length, get_or, subst, arith}
-use Rattle.sat_engine.specs.declared.trail.Step.{Step}
+use Rattle.sat_engine.specs.declared.trail.SetLiteral.{SetLiteral}
 use Rattle.sat_engine.specs.Trail.{IsSet, IsTrail, Before}
 use Rattle.sat_engine.proofs.Trails.{each_Contains}
 use Rattle.sat_search.proofs.turn.next_assumption.Goals as goal
 
 -- a literal that stands in the trail is true
-set_before : (steps : List Step) (truth : List Bool) (place : List ℕ) (n l : ℕ) → IsTrail steps truth place → n < length steps → Before steps n l → IsSet truth l
+set_before : (steps : List SetLiteral) (truth : List Bool) (place : List ℕ) (n l : ℕ) → IsTrail steps truth place → n < length steps → Before steps n l → IsSet truth l
 set_before steps truth place n l t lt b = let h = b.1 in subst (λ (x : ℕ). IsSet truth x) b.2 (t.on b.0 (omega arith)).1
 
 pub returns-then-is_free_at : goal.returns-then-is_free_at

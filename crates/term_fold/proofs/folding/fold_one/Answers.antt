@@ -1,5 +1,7 @@
 use Rattle.std.proofs.Common.{List, IfOk, subst}
 use Rattle.std.proofs.lemmas.Result.{IfOk-weaker}
+use Rattle.std.specs.Prelude.{nat_eq}
+use Rattle.indexmap.specs.IndexMap.{get}
 use Rattle.term_core.specs.declared.term.Term.{Term}
 use Rattle.term_core.specs.declared.term.TermKind.{TermKind}
 use Rattle.term_core.specs.Table.{kind_value}
@@ -13,6 +15,6 @@ returns-clause-same c =
     let new : List Term = c.simplified.new.terms in
     let t : Term = c.get-term.result in
     let P : TermKind → Type 0 = λ k. IfOk c.simplified.result (Replaces new t.shape (λ E V. kind_value E V old t.shape k)) in
-    IfOk-weaker c.simplified.result (Replaces new t.shape (λ E V. kind_value E V old t.shape (renamed_kind c.args.folded.now t.kind))) (IsSame new c.args.id.0)
-    (λ x h. folded_same old new c.args.folded.now c.args.id.0 t x c.get-term.ensures.value c.requires.within c.requires.before c.get-term.ensures.placed c.requires.known c.simplified.ensures.kept h)
+    IfOk-weaker c.simplified.result (Replaces new t.shape (λ E V. kind_value E V old t.shape (renamed_kind (get nat_eq c.args.folded.now) t.kind))) (IsSame new c.args.id.0)
+    (λ x h. folded_same old new (get nat_eq c.args.folded.now) c.args.id.0 t x c.get-term.ensures.value c.requires.within c.get-term.ensures.placed c.requires.known c.simplified.ensures.kept h)
     (subst P c.with_folded-kind.ensures c.simplified.ensures.replaces)

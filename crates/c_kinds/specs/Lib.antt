@@ -1,0 +1,11 @@
+pub mod Addresses
+pub mod Casts
+pub mod Constants
+pub mod Elements
+pub mod Integers
+pub mod Laws
+pub mod Layouts
+pub mod Operands
+pub mod Types
+pub mod Values
+pub mod Worked

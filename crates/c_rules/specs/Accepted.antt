@@ -1,0 +1,51 @@
+-- Accepted and refused texts and programs.
+use Rattle.std.specs.Prelude.{◌≡◌, false, List, [], ◌++◌, Option, Some, None}
+use Rattle.c_tokens.specs.declared.data_model.DataModel.{DataModel}
+use Rattle.c_tree.specs.declared.expression.Expression.{Expression}
+use Rattle.c_tree.specs.declared.declaration.Tree.{Tree}
+use Rattle.c_kinds.specs.declared.types.CType.{CType}
+use Rattle.c_kinds.specs.Values.{Answer, Gives}
+use Rattle.c_rules.specs.declared.program.Program.{Program}
+use Rattle.c_rules.specs.declared.names.Pair.{Pair}
+use Rattle.c_rules.specs.Broken.{of_each, least}
+use Rattle.c_rules.specs.Typing.{Given, answer_of}
+use Rattle.c_rules.specs.Texts.{names_of}
+use Rattle.c_rules.specs.Statements.{broken_external}
+use Rattle.c_rules.specs.Sequencing.{broken_sequencing}
+
+-- what the names of a text stand for in a data model
+abbrev pub given_of : DataModel → Tree → Given
+given_of model tree = record { names = names_of model tree; model = model }
+
+-- the rules that a text breaks, with their places: those of its declarations, of its expressions and statements, and of the
+-- order of side effects and calls
+abbrev pub broken_pairs : DataModel → Tree → List Pair
+broken_pairs model tree =
+    (names_of model tree).broken ++ of_each (broken_external (given_of model tree)) tree.externals ++ broken_sequencing (given_of model tree) tree.externals
+
+-- the text breaks no rule
+abbrev pub Accepted : DataModel → Tree → Type 0
+Accepted model tree = broken_pairs model tree ≡ []
+
+-- it is refused for the least of its broken pairs
+abbrev pub Refused : DataModel → Tree → Pair → Type 0
+Refused model tree p = least (broken_pairs model tree) ≡ Some p
+
+-- ---- programs
+
+-- what the names of a program stand for
+abbrev pub given_in : Program → Given
+given_in p = record { names = p.names; model = p.checks.model }
+
+-- an accepted text with what its names stand for
+pub record IsAcceptedProgram (p : Program) : Type 0 where
+  pub accepted : Accepted p.checks.model p.tree
+  pub names : p.names ≡ names_of p.checks.model p.tree
+
+abbrev pub type_by : Answer → Option CType
+type_by (Gives x) = Some x.ctype
+type_by _ = None
+
+-- the type of an expression of a program, before conversions
+abbrev pub type_in : Program → Expression → Option CType
+type_in p x = type_by (answer_of (given_in p) x false)
