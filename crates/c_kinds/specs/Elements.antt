@@ -36,7 +36,7 @@ subscript_by l at _ a i = Breaks 12 at
 abbrev pub subscript_answer : Layout → ℕ → Typed → Typed → Answer
 subscript_answer l at a i = unless (not (is_integer i.ctype)) 12 at (subscript_by l at (shape_of a.ctype) a i)
 
--- ---- members (6.5.2.3): the member's name is the token behind the `.` or `->`
+-- ---- members (6.5.2.3): the member's name is the token after the `.` or `->`
 
 -- the member has no type where its declaration breaks a rule
 abbrev pub member_place : ℕ → Typed → Option Member → Answer

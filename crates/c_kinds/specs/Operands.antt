@@ -79,7 +79,7 @@ abbrev pub distance : BinaryOperator → Fixed → Fixed
 distance binary.Subtract n = of_one n (λ i. Number (neg_ℤ i))
 distance _ n = n
 
--- ---- two operands, each a value: x stands before the operator, y behind it
+-- ---- two operands, each a value: x stands before the operator, y after it
 
 abbrev pub two_integers : BinaryOperator → ℕ → IntType → IntType → Typed → Typed → Answer
 two_integers operator at k l x y =

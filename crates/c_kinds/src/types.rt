@@ -83,7 +83,7 @@ pub type Members = Sequence<Member>;
 #[derive(Debug, Drop)]
 pub struct Struct {
     pub members: Members,
-    /// The last name, constant or operator between its braces: it is complete behind that token (6.7.2.1p8).
+    /// The last name, constant or operator between its braces: it is complete after that token (6.7.2.1p8).
     pub completed_at: Option<usize>,
     /// How many cells its members have.
     pub cells: u64,

@@ -67,7 +67,7 @@ less_behind x r y s e = ⊎_elim (λ less. inl (ltb-true x y less)) (λ not_so. 
 
 -- ---- lists
 
--- of two pairs the lesser: both are behind it
+-- of two pairs the lesser: both come after it
 pick : (x y p : Pair) → lesser x (Some y) ≡ p → ((p ≡ y) × (is_before y x ≡ true)) ⊎ ((p ≡ x) × (is_before y x ≡ false))
 pick x y p e = ⊎_elim (λ before. inl (sym e ∙ ap (λ b. cond b y x) before, before)) (λ other. inr (sym e ∙ ap (λ b. cond b y x) other, other)) (cases_Bool (is_before y x))
 

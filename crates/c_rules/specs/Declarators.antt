@@ -28,13 +28,13 @@ use Rattle.c_rules.specs.Specifiers.{Named, named}
 
 -- ---- what a declarator gives
 
--- whether the first size of an array may be left out: never, in a parameter, or where so many parts in braces give it
+-- whether the first size of an array may be left out: never, in a parameter, or where parts in braces give it
 pub data FirstSize : Type 0 where
   Needed : FirstSize
   OfParameter : FirstSize
   OfBraces : ℕ → FirstSize
 
--- where a declarator stands: behind the specifiers that begin with this token, in a declaration or in a type name
+-- where a declarator stands: after the specifiers that begin with this token, in a declaration or in a type name
 pub record Site : Type 0 where
   pub first_size : FirstSize
   pub first : ℕ
@@ -115,7 +115,7 @@ length_of_value at _ st = known_length None st
 abbrev pub as_value : Typed → Answer
 as_value v = Gives v
 
--- the size behind a `[`, an integer constant expression above 0
+-- the size after a `[`, an integer constant expression above 0
 abbrev pub length_at : ℕ → Answer → State → Length
 length_at at x st = length_of_value at (used (layout_at st) x as_value) (note_all (broken_using (layout_at st) x as_value) st)
 

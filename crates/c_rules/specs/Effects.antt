@@ -186,7 +186,7 @@ assign_effect operator at x y =
     doing (x.finding ++ target_read operator x.place ++ accesses y ++ writes_of x.place) (x.direct ++ y.direct ++ targets_of x.place)
     (among_if at x.place y.direct (asking (Between at (x.finding ++ target_read operator x.place) (accesses y)) (also x.asked (asked_of_value y))))
 
--- one behind the other, with a sequence point between (6.5.15p4, 6.5.17p2)
+-- one after the other, with a sequence point between (6.5.15p4, 6.5.17p2)
 abbrev pub in_sequence : Effect → Effect → Effect
 in_sequence x y = doing (accesses x ++ y.finding) (x.direct ++ y.direct) (also (asked_of_value x) y.asked)
 

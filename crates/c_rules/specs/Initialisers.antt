@@ -110,7 +110,7 @@ module _ {I : Type 0} where
   members w x [] (p ∷ ps) = pair x.equals 21 ∷ elements w (part_of x x.first None) (p ∷ ps)
   members w x (t ∷ ts) (p ∷ ps) = w p (part_of x x.first t) ++ members w x ts ps
 
-  -- `first` is the token behind the `{`
+  -- `first` is the token after the `{`
   abbrev pub parts_by : Given → (I → Initialised → List Pair) → Initialised → ℕ → Shape → CType → List I → List Pair
   parts_by g w x first (shape.Array n) t ps = pair_if (not (nat_le (length ps) n)) x.equals 21 ++ elements w (part_of x first (Some (inner t))) ps
   parts_by g w x first (shape.Struct n) t ps = members w (part_of x first None) (member_types (members_of g.names.structs n)) ps

@@ -31,7 +31,7 @@ abbrev pub row_named : {A : Type 0} → List (List ℕ × A) → List ℕ → Op
 row_named [] name = None
 row_named (row ∷ rows) name = if bytes_eq row.0 name then Some row.1 else row_named rows name
 
--- what stands behind the prefix
+-- what stands after the prefix
 abbrev pub behind : List ℕ → List ℕ → Option (List ℕ)
 behind [] name = Some name
 behind (c ∷ cs) [] = None

@@ -1,5 +1,5 @@
 -- What the names in expressions and type names stand for, and what specifiers and declarators declare: one case for each kind
--- of node. Each node is looked at from the state before it and gives the state behind it. Sections are those of
+-- of node. Each node is looked at from the state before it and gives the state after it. Sections are those of
 -- ISO/IEC 9899:2011.
 use Rattle.std.specs.Prelude.{ℕ, ◌+◌, pos, Bool, true, false, not, List, [], ◌∷◌, ◌++◌, Option, Some, None}
 use Rattle.kv_num.specs.declared.types.IntType.TheVariants.{Int}
@@ -131,7 +131,7 @@ module _ {D C E M S L P T : Type 0} where
   specifier_node w (s.EnumTag tag at) is_alone x = enum_named at (find x.state.tags tag) x
   specifier_node w (s.TypedefName name at) is_alone x = typedef_named (find x.state.ordinary name) x
 
-  -- the value of an enumeration constant begins two tokens behind its name
+  -- the value of an enumeration constant begins two tokens after its name
   abbrev pub constant_node : Looks D C E M S L P T → EnumConstant-F D C E M S L P T → AtConstant
   constant_node w (c.Next name at) n = counts name at at n.next n.state
   constant_node w (c.Valued name value at) n =

@@ -86,7 +86,7 @@ pub record State : Type 0 where
   pub labels : List (List ℕ)
   -- the place is under `sizeof`, which evaluates nothing
   pub is_unevaluated : Bool
-  -- the last name, constant or operator behind an operand so far
+  -- the last name, constant or operator after an operand so far
   pub reached : ℕ
   pub model : DataModel
 

@@ -60,7 +60,7 @@ in_switch x = record x { may_break = true; is_direct = false; is_switch_block = 
 abbrev pub in_block : Near → Near
 in_block x = record x { is_direct = x.is_switch_block; is_switch_block = false }
 
--- behind a label: as the label itself, but no block of a `switch`
+-- after a label: as the label itself, but no block of a `switch`
 abbrev pub behind_label : Near → Near
 behind_label x = record x { is_switch_block = false }
 

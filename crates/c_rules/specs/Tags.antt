@@ -22,7 +22,7 @@ use Rattle.c_rules.specs.Scopes.{State, find, find_here, layout_at, note, note_i
 use Rattle.c_rules.specs.Specifiers.{Specified, with_other, in_state}
 use Rattle.c_rules.specs.Declarators.{Built, holds, as_value}
 
--- a tag is the token behind its keyword
+-- a tag is the token after its keyword
 abbrev pub tag_at : Option (List ℕ) → ℕ → ℕ
 tag_at None at = at
 tag_at (Some tag) at = at + 1
@@ -78,7 +78,7 @@ struct_type n = Some (plain (base.Struct n))
 abbrev pub is_too_large : State → ℕ → Bool
 is_too_large st n = holds (λ t. nat_lt MAX_OBJECT_CELLS (cell_count st.names.structs t)) (struct_type n)
 
--- complete behind its members; rule 10 at the tag where it has none or too many cells
+-- complete after its members; rule 10 at the tag where it has none or too many cells
 abbrev pub ends_struct : ℕ → Bool → ℕ → State → State
 ends_struct n is_empty place st =
     note_if (is_empty || is_too_large st n) place 10 (change_struct n (λ s. record s { completed_at = Some st.reached }) st)

@@ -230,7 +230,7 @@ abbrev pub all_externals : List External → State → State
 all_externals [] st = st
 all_externals (x ∷ xs) st = all_externals xs (one_external x st)
 
--- behind the last token of a text
+-- after the last token of a text
 abbrev pub end_of : Tree → ℕ
 end_of tree = 2 ^ 64 - 1
 
@@ -265,11 +265,11 @@ beginning model defined = record {
   model = model;
 }
 
--- which objects the file defines, behind their uses too
+-- which objects the file defines, after their uses too
 abbrev pub defined_in : DataModel → Tree → List (List ℕ)
 defined_in model tree = (all_externals tree.externals (beginning model [])).defines
 
--- rule 1 behind the last token
+-- rule 1 after the last token
 abbrev pub with_main : ℕ → State → State
 with_main end st = note_if (not (main_is_defined st)) end 1 st
 

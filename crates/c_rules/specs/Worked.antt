@@ -60,7 +60,7 @@ f_meant = Some (meaning.Function 0)
 abbrev pub fails_meant : Option Meaning
 fails_meant = Some (meaning.Known known.AssertFail)
 
--- whole expressions: the names stand at the tokens 0 to 2, the operators between and behind them
+-- whole expressions: the names stand at the tokens 0 to 2, the operators between and after them
 pub record WorkedAnswers : Type 0 where
   -- `x = 1`
   pub assignment : answer_of (means (the_object 0) None None) (tree.Assign assign.Plain (x_at 0) (number_at 1 2) 1) false ≡ Gives (result int constant.Varies 1 2)

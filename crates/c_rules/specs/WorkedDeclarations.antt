@@ -27,7 +27,7 @@ nothing = beginning Lp64 []
 abbrev pub first : Specified
 first = no_specifiers nothing
 
--- behind `int` at token 6
+-- after `int` at token 6
 abbrev pub behind_int : Site
 behind_int = site_of Needed 6
 
