@@ -18,3 +18,4 @@ pub mod Steps
 pub mod Executions
 pub mod Blocks
 pub mod Heads
+pub mod Laws
