@@ -63,6 +63,27 @@ pub fn keeping<Kept: Drop, Given, Fault>(
     }
 }
 
+/// What two steps give, or the fault of the first that fails.
+pub fn both<First: Drop, Second: Drop, Fault: Drop>(
+    first: Result<First, Fault>,
+    second: Result<Second, Fault>,
+) -> Result<(First, Second), Fault>
+    ensures { IfOk result (λ made. (first ≡ Ok made.0) × (second ≡ Ok made.1)) }
+{
+    Ok((first?, second?))
+}
+
+/// What three steps give, or the fault of the first that fails.
+pub fn all_three<First: Drop, Second: Drop, Third: Drop, Fault: Drop>(
+    first: Result<First, Fault>,
+    second: Result<Second, Fault>,
+    third: Result<Third, Fault>,
+) -> Result<(First, Second, Third), Fault>
+    ensures { IfOk result (λ made. (first ≡ Ok made.0) × (second ≡ Ok made.1) × (third ≡ Ok made.2)) }
+{
+    Ok((first?, second?, third?))
+}
+
 /// A list that begins with this element.
 pub fn with_first<Element: Drop>(
     alloc: Global,

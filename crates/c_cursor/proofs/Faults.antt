@@ -7,7 +7,7 @@ use Rattle.c_cursor.specs.declared.fault.Fault.{Fault}
 use Rattle.c_cursor.specs.declared.fault.Fault.TheVariants.{Syntax, NoMemory}
 use Rattle.c_cursor.specs.declared.marks.Mark.{Mark}
 use Rattle.c_cursor.specs.Bare.{bare_at, Takes}
-use Rattle.c_grammar.specs.Reader.{Outcome, Refuses}
+use Rattle.c_grammar.specs.ReadExpressions.{Outcome, Refuses}
 use Rattle.c_cursor.specs.Reads.{Reads}
 
 refused_by : {A B : Type 0} (o : Outcome A) (whole : Outcome B) (fault : Fault) (q r : Place) → (o ≡ Refuses → whole ≡ Refuses)

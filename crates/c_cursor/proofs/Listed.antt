@@ -6,7 +6,7 @@ use Rattle.c_cursor.specs.declared.marks.Mark.TheVariants as mark
 use Rattle.c_cursor.specs.Bare.{bare}
 use Rattle.c_grammar.specs.Marks as spec
 use Rattle.c_grammar.specs.Marks.{Mark, mark_at}
-use Rattle.c_grammar.specs.Reader.{Outcome, Gives, Refuses, and_then}
+use Rattle.c_grammar.specs.ReadExpressions.{Outcome, Gives, Refuses, and_then}
 use Rattle.c_grammar.specs.ReadTypes.{ListOf, separated_after, separated, listed_comma, listed_after, listed}
 use Rattle.c_cursor.proofs.Lists.{after, after_none, joined, one_further}
 

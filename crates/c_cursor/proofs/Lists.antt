@@ -1,7 +1,7 @@
 -- Lists that are read one by one, and what goes on after what was read.
 use Rattle.std.proofs.Common.{◌≡◌, ℕ, suc, ◌+◌, ◌-◌, ◌<◌, List, [], ◌∷◌, ◌++◌, refl, sym, ap, append_assoc, arith}
 use Rattle.c_tree.specs.Places.{Place}
-use Rattle.c_grammar.specs.Reader.{Outcome, Gives, Refuses, and_then}
+use Rattle.c_grammar.specs.ReadExpressions.{Outcome, Gives, Refuses, and_then}
 
 pub one_further : (n i : ℕ) → i < n → n - i ≡ suc (n - (i + 1))
 one_further n i h = omega arith

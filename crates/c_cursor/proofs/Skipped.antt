@@ -12,7 +12,8 @@ use Rattle.c_cursor.specs.Bare.{bare, bare_bracket, bare_bracketing, attribute_a
 use Rattle.c_grammar.specs.Kinds.{kind_at}
 use Rattle.c_grammar.specs.Marks as spec
 use Rattle.c_grammar.specs.Marks.{Mark, mark_at, Bracketing, bracketing, same_bracket}
-use Rattle.c_grammar.specs.Reader.{Outcome, Gives, Refuses, and_then}
+use Rattle.c_grammar.specs.ReadExpressions.{Outcome, Gives, Refuses, and_then}
+use Rattle.c_grammar.specs.ReadExpressions.{where_colon}
 use Rattle.c_grammar.specs.ReadTypes.{Skips, where_opens, where_closes, where_square_closes, where_curly_closes, where_semicolon, balanced_by, balanced, attribute, attributes_by, attributes, qualifiers_by, qualifiers}
 use Rattle.c_cursor.proofs.Lists.{after, append_none, joined, one_more, one_further, then_both}
 
@@ -219,6 +220,10 @@ square_closes_both _ o p g e = refl
 pub semicolon_both : {B C : Type 0} (m : Mark) (o : Outcome C) (p : Outcome B) (g : B → Place → Outcome C) → o ≡ and_then p g → where_semicolon m o ≡ and_then (where_semicolon m p) g
 semicolon_both spec.Semicolon o p g e = e
 semicolon_both _ o p g e = refl
+
+pub colon_both : {B C : Type 0} (m : Mark) (o : Outcome C) (p : Outcome B) (g : B → Place → Outcome C) → o ≡ and_then p g → where_colon m o ≡ and_then (where_colon m p) g
+colon_both spec.Colon o p g e = e
+colon_both _ o p g e = refl
 
 attribute_on : (kinds : List TokenKind) (inside more : Skips) (p : Place)
     → attribute kinds inside more p ≡ and_then (attribute kinds inside (λ q. Gives tt q) p) (λ u q. more q)

@@ -13,7 +13,7 @@ use Rattle.c_cursor.specs.declared.skips.Bracket.{Bracket}
 use Rattle.c_cursor.specs.declared.skips.Bracket.TheVariants as bracket
 use Rattle.c_cursor.specs.declared.skips.Bracketing.{Bracketing}
 use Rattle.c_cursor.specs.declared.skips.Bracketing.TheVariants as bracketing
-use Rattle.c_grammar.specs.Reader.{Outcome, Gives}
+use Rattle.c_grammar.specs.ReadExpressions.{Outcome, Gives}
 use Rattle.c_grammar.specs.ReadTypes.{balanced, attribute}
 
 abbrev pub bare : spec.Mark → Mark

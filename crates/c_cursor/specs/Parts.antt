@@ -10,7 +10,7 @@ use Rattle.c_tree.specs.declared.expression.EnumConstant.{EnumConstant}
 use Rattle.c_tree.specs.Places.{Place}
 use Rattle.c_tree.specs.SpellsText.{kinds_of}
 use Rattle.c_cursor.specs.declared.fault.Fault.{Fault}
-use Rattle.c_grammar.specs.Reader.{Outcome}
+use Rattle.c_grammar.specs.ReadExpressions.{Outcome}
 use Rattle.c_grammar.specs.Readers.{read, specifiers, perhaps, struct_with, enum_with}
 use Rattle.c_cursor.specs.Reads.{Reads, ReadsAs}
 

@@ -10,8 +10,8 @@ use Rattle.c_cursor.specs.declared.parts.Perhaps.{Perhaps}
 use Rattle.c_cursor.specs.declared.parts.Perhaps.TheVariants.{With, Without}
 use Rattle.c_grammar.specs.declared.kinds.Suffix.{Suffix}
 use Rattle.c_grammar.specs.declared.kinds.Suffix.TheVariants.{NoSuffix}
-use Rattle.c_grammar.specs.Kinds.{kind_at, suffix, prefix}
-use Rattle.c_grammar.specs.Reader.{Outcome, Gives, Refuses, where_round, where_square, where_colon, where_name}
+use Rattle.c_grammar.specs.Kinds.{kind_at, prefix}
+use Rattle.c_grammar.specs.ReadExpressions.{Outcome, Gives, Refuses, where_name}
 use Rattle.c_grammar.specs.ReadTypes as spec
 
 -- the outcome, seen by a function, unless memory is refused
@@ -36,21 +36,12 @@ abbrev pub perhaps_of : Perhaps → spec.Perhaps
 perhaps_of (With d) = spec.With (titled_of d)
 perhaps_of (Without inner) = spec.Without inner
 
--- it is a suffix, or what ends an expression
+-- it is a suffix
 abbrev pub IsSuffix : Suffix → Type 0
 IsSuffix NoSuffix = ⊥
 IsSuffix _ = Unit {0}
 
 -- ---- single tokens
-
-unfoldable pub closes_round : List TokenKind → Place → Outcome (Unit {0})
-closes_round kinds p = where_round (suffix (kind_at kinds p)) (Gives tt (next p))
-
-unfoldable pub closes_square : List TokenKind → Place → Outcome (Unit {0})
-closes_square kinds p = where_square (suffix (kind_at kinds p)) (Gives tt (next p))
-
-unfoldable pub colon : List TokenKind → Place → Outcome (Unit {0})
-colon kinds p = where_colon (suffix (kind_at kinds p)) (Gives tt (next p))
 
 unfoldable pub name_read : List TokenKind → Place → Outcome (List ℕ)
 name_read kinds p = where_name (prefix (kind_at kinds p)) (λ text. Gives text (next p))

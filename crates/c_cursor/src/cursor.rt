@@ -5,9 +5,8 @@ ghost use Rattle.std.specs.Option.{option_copied};
 ghost use Rattle.c_tree.specs.Places as spec;
 ghost use Rattle.c_tree.specs.SpellsText.{kinds_of, beginning};
 
-use crate::{Block, Scopes};
-use c_nesting::MAX_DEPTH;
-use c_tokens::{Token, TokenKind};
+use crate::{BlockScope, Scopes};
+use c_tokens::{MAX_DEPTH, Token, TokenKind};
 use kv_base::{Bytes, NoMemory, Stack};
 use std::alloc::Global;
 use std::marker::Model;
@@ -145,14 +144,14 @@ impl Cursor {
     }
 
     /// A block begins, with names that are declared in it.
-    pub fn enter_with(&mut self, block: Block) -> Result<(), NoMemory>
+    pub fn enter_with(&mut self, block: BlockScope) -> Result<(), NoMemory>
         ensures { OnOk result (self.new ≡ spec.enter_with self.old block) }
     {
         self.scopes.enter(block)
     }
 
     /// The innermost block ends. What it declared is handed out.
-    pub fn leave(&mut self) -> Block
+    pub fn leave(&mut self) -> BlockScope
         ensures left { self.new ≡ spec.leave self.old }
         ensures block { result ≡ spec.first_of self.old.blocks }
     {

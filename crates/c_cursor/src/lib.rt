@@ -4,6 +4,7 @@
 
 mod cursor;
 mod fault;
+mod inside;
 mod marks;
 mod meanings;
 mod parts;
@@ -14,9 +15,10 @@ mod type_qualifiers;
 
 pub use cursor::Cursor;
 pub use fault::{Fault, refuse};
+pub use inside::Inside;
 pub use marks::{Mark, mark_at, second_mark, take};
 pub use parts::{Perhaps, Specified, Titled};
-pub use scopes::{Block, Scopes};
+pub use scopes::{BlockScope, Scopes};
 pub use skips::attributes;
-pub use tokens::{begins_type, close_round, close_square, colon, is_start, name, suffix};
+pub use tokens::{begins_type, is_start, name, suffix};
 pub use type_qualifiers::{may_qualify_parameter, may_qualify_type, qualifiers};

@@ -5,7 +5,7 @@ ghost use Rattle.c_tree.specs.declared.scope.Entry.{Entry as Declared};
 ghost use Rattle.c_tree.specs.Places.{find_in};
 ghost use Rattle.c_cursor.specs.Meanings.{HasMeanings};
 
-use crate::Block;
+use crate::BlockScope;
 use c_tree::Entry;
 use kv_base::{NoMemory, Stack};
 use std::alloc::Global;
@@ -63,7 +63,7 @@ impl Meanings {
     }
 
     /// Adds a block's declarations, the newest last.
-    pub(crate) fn add_block(&mut self, block: &Block) -> Result<(), NoMemory>
+    pub(crate) fn add_block(&mut self, block: &BlockScope) -> Result<(), NoMemory>
         ensures { OnOk result ((entries : List Declared) → HasMeanings entries self.old.by_name → HasMeanings (block.now ++ entries) self.new.by_name) }
     {
         for entry in block.as_slice() {
@@ -73,7 +73,7 @@ impl Meanings {
     }
 
     /// Takes a block's declarations away, which are the newest.
-    pub(crate) fn remove_block(&mut self, block: &Block)
+    pub(crate) fn remove_block(&mut self, block: &BlockScope)
         ensures { (entries : List Declared) → HasMeanings (block.now ++ entries) self.old.by_name → HasMeanings entries self.new.by_name }
     {
         for entry in block.as_slice().iter().rev() {

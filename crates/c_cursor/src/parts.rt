@@ -1,6 +1,6 @@
 //! What a reader gives besides trees.
 
-use crate::Block;
+use crate::BlockScope;
 use c_tree::{Declarator, Specifier};
 use kv_base::Bytes;
 use sqlite_items::Items;
@@ -19,7 +19,7 @@ pub struct Titled {
     /// The name that it declares.
     pub name: Bytes,
     /// What the parameters nearest to the name declare.
-    pub parameters: Option<Block>,
+    pub parameters: Option<BlockScope>,
     pub inner: Declarator,
 }
 

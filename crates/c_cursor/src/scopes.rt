@@ -11,13 +11,13 @@ use std::marker::Model;
 use std::mem;
 
 /// The names that one block declares, the newest first.
-pub type Block = Stack<Entry>;
+pub type BlockScope = Stack<Entry>;
 
 /// The names that are declared, the innermost block and the newest declaration first (C11 6.2.1).
 #[derive(Drop)]
 pub struct Scopes {
     alloc: Global,
-    blocks: Stack<Block>,
+    blocks: Stack<BlockScope>,
     meanings: Meanings,
 }
 
@@ -73,7 +73,7 @@ impl Scopes {
     }
 
     /// A block begins with these names.
-    pub fn enter(&mut self, block: Block) -> Result<(), NoMemory>
+    pub fn enter(&mut self, block: BlockScope) -> Result<(), NoMemory>
         ensures { OnOk result (self.new ≡ block ∷ self.old) }
     {
         // Both are put back together at the end, so that a refusal leaves nothing declared.
@@ -87,7 +87,7 @@ impl Scopes {
     }
 
     /// The innermost block ends. It is handed out.
-    pub fn leave(&mut self) -> Block
+    pub fn leave(&mut self) -> BlockScope
         ensures left { self.new ≡ spec.without_first self.old }
         ensures block { result ≡ spec.first_of self.old }
     {
@@ -98,7 +98,7 @@ impl Scopes {
 }
 
 /// Takes the innermost block out, or makes an empty one where there is none.
-fn take_first(alloc: Global, blocks: &mut Stack<Block>) -> Block
+fn take_first(alloc: Global, blocks: &mut Stack<BlockScope>) -> BlockScope
     ensures left { blocks.new ≡ spec.without_first blocks.old }
     ensures block { result ≡ spec.first_of blocks.old }
 {

@@ -5,7 +5,7 @@ ghost use Rattle.std.specs.Option.{option_copied};
 ghost use Rattle.c_tree.specs.Places.{next};
 ghost use Rattle.c_tree.specs.SpellsText.{kinds_of};
 ghost use Rattle.c_grammar.specs.Kinds as spec;
-ghost use Rattle.c_cursor.specs.Reads.{Reads, IsSuffix, closes_round, closes_square, colon, name_read};
+ghost use Rattle.c_cursor.specs.Reads.{Reads, IsSuffix, name_read};
 
 use crate::Cursor;
 use crate::fault::{Fault, refuse};
@@ -22,51 +22,6 @@ pub fn suffix(tokens: &[Token], place: &Cursor) -> Suffix
     match place.kind(tokens) {
         Some(kind) => suffix_of(kind),
         None => Suffix::NoSuffix,
-    }
-}
-
-/// Takes a `)`.
-#[tactic(auto, unfolding(crate::specs::Reads::closes_round))]
-pub fn close_round(tokens: &[Token], place: &mut Cursor) -> Result<(), Fault>
-    ensures reads { Reads (closes_round (kinds_of tokens.now) place.old) result place.new }
-    ensures next { OnOk result (place.new ≡ next place.old) }
-{
-    match suffix(tokens, place) {
-        Suffix::ClosesRound => {
-            place.skip();
-            Ok(())
-        }
-        _ => Err(refuse(place)),
-    }
-}
-
-/// Takes a `]`.
-#[tactic(auto, unfolding(crate::specs::Reads::closes_square))]
-pub fn close_square(tokens: &[Token], place: &mut Cursor) -> Result<(), Fault>
-    ensures reads { Reads (closes_square (kinds_of tokens.now) place.old) result place.new }
-    ensures next { OnOk result (place.new ≡ next place.old) }
-{
-    match suffix(tokens, place) {
-        Suffix::ClosesSquare => {
-            place.skip();
-            Ok(())
-        }
-        _ => Err(refuse(place)),
-    }
-}
-
-/// Takes a `:`.
-#[tactic(auto, unfolding(crate::specs::Reads::colon))]
-pub fn colon(tokens: &[Token], place: &mut Cursor) -> Result<(), Fault>
-    ensures reads { Reads (colon (kinds_of tokens.now) place.old) result place.new }
-    ensures next { OnOk result (place.new ≡ next place.old) }
-{
-    match suffix(tokens, place) {
-        Suffix::Colons => {
-            place.skip();
-            Ok(())
-        }
-        _ => Err(refuse(place)),
     }
 }
 

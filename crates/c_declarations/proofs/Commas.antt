@@ -6,7 +6,7 @@ use Rattle.c_grammar.specs.Marks as spec
 use Rattle.c_grammar.specs.Marks.{mark_at}
 use Rattle.c_cursor.specs.declared.marks.Mark.TheVariants as mark
 use Rattle.c_cursor.specs.Bare.{bare, bare_at}
-use Rattle.c_grammar.specs.Reader.{Outcome, Gives, Refuses, and_then}
+use Rattle.c_grammar.specs.ReadExpressions.{Outcome, Gives, Refuses, and_then}
 use Rattle.c_grammar.specs.ReadTypes.{ListOf, separated, separated_after}
 use Rattle.c_cursor.proofs.Lists.{after, after_none, joined, append_none, one_further, one_more}
 

@@ -8,7 +8,7 @@ use Rattle.c_grammar.specs.Marks as spec
 use Rattle.c_grammar.specs.Marks.{mark_at}
 use Rattle.c_cursor.specs.declared.marks.Mark.TheVariants as mark
 use Rattle.c_cursor.specs.Bare.{bare, bare_at}
-use Rattle.c_grammar.specs.Reader.{Outcome, Gives, Refuses, and_then}
+use Rattle.c_grammar.specs.ReadExpressions.{Outcome, Gives, Refuses, and_then}
 use Rattle.c_grammar.specs.ReadTypes.{ListOf, Titled, Titles}
 use Rattle.c_grammar.specs.ReadStatements.{declaration_by, declaration_end, declared_by, initialiser}
 use Rattle.c_declarations.specs.Values.{initialised, plain_declared}

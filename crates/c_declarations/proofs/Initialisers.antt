@@ -7,7 +7,7 @@ use Rattle.c_cursor.specs.declared.marks.Mark.TheVariants as mark
 use Rattle.c_cursor.specs.Bare.{bare}
 use Rattle.c_grammar.specs.Marks as spec
 use Rattle.c_grammar.specs.Marks.{mark_at}
-use Rattle.c_grammar.specs.Reader.{Refuses}
+use Rattle.c_grammar.specs.ReadExpressions.{Refuses}
 use Rattle.c_grammar.specs.Readers.{read}
 use Rattle.c_grammar.specs.ReadTypes.{ListOf, listed}
 use Rattle.c_grammar.specs.ReadStatements.{initialiser, initialiser_by}

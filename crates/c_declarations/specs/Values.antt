@@ -6,14 +6,14 @@ use Rattle.c_tree.specs.declared.declaration.Declared.TheVariants as declared_no
 use Rattle.c_tree.specs.declared.declaration.Initialiser.{Initialiser}
 use Rattle.c_tree.specs.declared.declaration.Initialiser.TheVariants as initialiser_node
 use Rattle.c_tree.specs.Places.{Place, next, declare}
-use Rattle.c_grammar.specs.Reader.{Outcome, Gives, and_then}
+use Rattle.c_grammar.specs.ReadExpressions.{Outcome, Gives, and_then}
 use Rattle.c_grammar.specs.Readers.{read}
 use Rattle.c_grammar.specs.ReadTypes.{Titled, Titles}
 use Rattle.c_grammar.specs.ReadStatements.{initialiser}
 
 -- an expression
 abbrev pub initial_value : List TokenKind → ℕ → Place → Outcome Initialiser
-initial_value kinds n p = and_then (read kinds n 1 p) (λ x q. Gives (initialiser_node.Value x) q)
+initial_value kinds n p = and_then (read kinds n 1 p) (λ x q. Gives (initialiser_node.Value x p.at) q)
 
 -- after a declarator, from the `=` on
 abbrev pub initialised : List TokenKind → ℕ → Bool → Titled → Place → Outcome Declared

@@ -62,8 +62,9 @@ impl<
         requires within { depth ≤ self.now.depth }
         ensures { Reads (initial_value (kinds_of self.now.tokens.now) depth place.old) result place.new }
     {
+        let at = place.at();
         let value = self.value(depth, place)?;
-        Ok(Initialiser::Value { value })
+        Ok(Initialiser::Value { value, at })
     }
 
     /// An initialiser in an initialiser or a declaration, in up to this many steps.

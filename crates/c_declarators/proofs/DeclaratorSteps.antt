@@ -1,5 +1,5 @@
 -- Declarators, part by part.
-use Rattle.std.proofs.Common.{◌≡◌, ℕ, ◌+◌, ◌-◌, ◌<◌, ◌≤◌, false, List, [], Option, None, Result, refl, sym, subst, ◌∙◌, ap, arith}
+use Rattle.std.proofs.Common.{◌≡◌, ℕ, ◌+◌, ◌-◌, ◌<◌, ◌≤◌, List, [], Option, None, Result, refl, sym, subst, ◌∙◌, ap, arith}
 use Rattle.c_tokens.specs.declared.token.TokenKind.{TokenKind}
 use Rattle.c_tree.specs.declared.expression.Expression.{Expression}
 use Rattle.c_tree.specs.declared.expression.Declarator.{Declarator}
@@ -17,7 +17,7 @@ use Rattle.c_cursor.specs.Reads.{ReadsAs, titled_of, perhaps_of, name_read}
 use Rattle.c_declarators.specs.Declarators.{alone, parameters_at, array_suffix, function_parameters, function_suffix, titled_at, inner_declarator, declared_name, perhaps_at}
 use Rattle.c_grammar.specs.Marks as spec
 use Rattle.c_grammar.specs.Marks.{Mark, mark_of, mark_at}
-use Rattle.c_grammar.specs.Reader.{Outcome, Gives, Refuses, and_then, Reader}
+use Rattle.c_grammar.specs.ReadExpressions.{Outcome, Gives, Refuses, and_then, ReadsExpression}
 use Rattle.c_grammar.specs.ReadTypes.{Titled, Titles, Takes, Taken, Suffixes, Without, where_closes, where_square_closes, array_by, with_parameters, function_by, suffixes_by, suffixes}
 use Rattle.c_grammar.specs.Readers.{read, declarator}
 use Rattle.c_cursor.proofs.Plain.{told}
@@ -28,7 +28,7 @@ use Rattle.c_cursor.proofs.Lists.{then_both}
 
 -- ---- arrays
 
-sized_on : (kinds : List TokenKind) (rd : Reader) (go : Suffixes) (name : List ℕ) (parameters : Option (List Entry)) (inner : Declarator) (at : ℕ) (p : Place)
+sized_on : (kinds : List TokenKind) (rd : ReadsExpression) (go : Suffixes) (name : List ℕ) (parameters : Option (List Entry)) (inner : Declarator) (at : ℕ) (p : Place)
     → and_then (rd 2 p) (λ size r. where_square_closes (mark_at kinds r) (go (Titles name parameters (declarator_node.Array inner size at)) (next r)))
     ≡ and_then (and_then (rd 2 p) (λ size r. where_square_closes (mark_at kinds r) (Gives size (next r)))) (λ size r. go (Titles name parameters (declarator_node.Array inner size at)) r)
 sized_on kinds rd go name parameters inner at p =
@@ -37,7 +37,7 @@ sized_on kinds rd go name parameters inner at p =
     (λ size r. square_closes_both (mark_at kinds r) (go (Titles name parameters (declarator_node.Array inner size at)) (next r)) (Gives size (next r))
     (λ size r. go (Titles name parameters (declarator_node.Array inner size at)) r) refl)
 
-array_on : (kinds : List TokenKind) (rd : Reader) (go : Suffixes) (d : Titled) (p : Place) (m : Mark) → array_by kinds rd go d p m ≡ and_then (array_by kinds rd alone d p m) go
+array_on : (kinds : List TokenKind) (rd : ReadsExpression) (go : Suffixes) (d : Titled) (p : Place) (m : Mark) → array_by kinds rd go d p m ≡ and_then (array_by kinds rd alone d p m) go
 array_on kinds rd go (Titles name parameters inner) p spec.SquareCloses = refl
 array_on kinds rd go (Titles name parameters inner) p _ =
     then_both (rd 2 (next p)) (λ size r. where_square_closes (mark_at kinds r) (go (Titles name parameters (declarator_node.Array inner size p.at)) (next r)))
@@ -45,7 +45,7 @@ array_on kinds rd go (Titles name parameters inner) p _ =
     (λ size r. square_closes_both (mark_at kinds r) (go (Titles name parameters (declarator_node.Array inner size p.at)) (next r))
     (Gives (Titles name parameters (declarator_node.Array inner size p.at)) (next r)) go refl)
 
-by_open : (kinds : List TokenKind) (rd : Reader) (name : List ℕ) (parameters : Option (List Entry)) (inner : Declarator) (p : Place) (m : Mark) → bare m ≡ mark.SquareCloses
+by_open : (kinds : List TokenKind) (rd : ReadsExpression) (name : List ℕ) (parameters : Option (List Entry)) (inner : Declarator) (p : Place) (m : Mark) → bare m ≡ mark.SquareCloses
     → array_by kinds rd alone (Titles name parameters inner) p m ≡ Gives (Titles name parameters (declarator_node.OpenArray inner p.at)) (next (next p))
 by_open kinds rd name parameters inner p m e = rw (told m spec.SquareCloses tt e) refl
 
@@ -95,7 +95,7 @@ function_on kinds list go (Titles name parameters inner) p _ =
     (λ t r. with_on kinds go name parameters inner p t r)
 
 by_empty : (kinds : List TokenKind) (list : Place → Outcome Takes) (name : List ℕ) (parameters : Option (List Entry)) (inner : Declarator) (p : Place) (m : Mark) → bare m ≡ mark.RoundCloses
-    → function_by kinds list alone (Titles name parameters inner) p m ≡ Gives (Titles name (nearest parameters []) (declarator_node.Function inner [] false p.at)) (next (next p))
+    → function_by kinds list alone (Titles name parameters inner) p m ≡ Gives (Titles name (nearest parameters []) (declarator_node.Function inner [] None p.at)) (next (next p))
 by_empty kinds list name parameters inner p m e = rw (told m spec.RoundCloses tt e) refl
 
 by_parameters : (kinds : List TokenKind) (n : ℕ) (name : List ℕ) (parameters : Option (List Entry)) (inner : Declarator) (p : Place) (m : Mark) → (bare m ≡ mark.RoundCloses → ⊥)
@@ -105,10 +105,10 @@ by_parameters kinds n name parameters inner p _ f = refl
 
 pub function_empty : (kinds : List TokenKind) (n : ℕ) (name : List ℕ) (parameters : Option (List Entry)) (inner : Declarator) (p q r : Place) → q ≡ next p
     → bare (mark_at kinds q) ≡ mark.RoundCloses → r ≡ next q
-    → function_suffix kinds n (Titles name parameters inner) p ≡ Gives (Titles name (nearest parameters []) (declarator_node.Function inner [] false p.at)) r
+    → function_suffix kinds n (Titles name parameters inner) p ≡ Gives (Titles name (nearest parameters []) (declarator_node.Function inner [] None p.at)) r
 function_empty kinds n name parameters inner p q r e h f =
     by_empty kinds (parameters_at kinds n) name parameters inner p (mark_at kinds (next p)) (ap (λ t. bare (mark_at kinds t)) (sym e) ∙ h)
-    ∙ ap (λ t. Gives (Titles name (nearest parameters []) (declarator_node.Function inner [] false p.at)) t) (sym (f ∙ ap next e))
+    ∙ ap (λ t. Gives (Titles name (nearest parameters []) (declarator_node.Function inner [] None p.at)) t) (sym (f ∙ ap next e))
 
 pub function_some : (kinds : List TokenKind) (n : ℕ) (name : List ℕ) (parameters : Option (List Entry)) (inner : Declarator) (at : ℕ) (p q : Place) (r : Result parts_titled.Titled Fault) (s : Place)
     → at ≡ p.at → q ≡ next p → (bare (mark_at kinds q) ≡ mark.RoundCloses → ⊥) → ReadsAs titled_of (function_parameters kinds n (Titles name parameters inner) at q) r s

@@ -7,7 +7,7 @@ use Rattle.c_tree.specs.Places.{Place, next, enter}
 use Rattle.c_declarators.specs.declared.declarators.Parameters.{Parameters}
 use Rattle.c_grammar.specs.Marks as sign
 use Rattle.c_grammar.specs.Marks.{Mark, mark_at}
-use Rattle.c_grammar.specs.Reader.{Outcome, Gives, Refuses, and_then}
+use Rattle.c_grammar.specs.ReadExpressions.{Outcome, Gives, Refuses, and_then}
 use Rattle.c_grammar.specs.ReadTypes.{Titled, Titles, Suffixes, Takes, Taken, Perhaps, where_closes, attributes, parameter, parameters, array_by, function_by, with_parameters, suffixes_with, titled, perhaps_with}
 use Rattle.c_grammar.specs.Readers.{read, specifiers, perhaps, declarator}
 

@@ -6,7 +6,7 @@ use Rattle.c_tree.specs.declared.expression.Declarator.{Declarator}
 use Rattle.c_tree.specs.declared.expression.Declarator.TheVariants as declarator_node
 use Rattle.c_tree.specs.Places.{Place, next}
 use Rattle.c_grammar.specs.Marks.{mark_at}
-use Rattle.c_grammar.specs.Reader.{Outcome, Gives, and_then}
+use Rattle.c_grammar.specs.ReadExpressions.{Outcome, Gives, and_then}
 use Rattle.c_grammar.specs.ReadTypes.{where_square_closes}
 use Rattle.c_grammar.specs.Readers.{read}
 

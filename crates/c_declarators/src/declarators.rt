@@ -28,8 +28,8 @@ use std::alloc::Global;
 #[derive(Drop)]
 pub struct Parameters {
     pub list: Items<Parameter>,
-    /// Whether `, ...` ends them.
-    pub variadic: bool,
+    /// The number of the `...` that ends them.
+    pub variadic: Option<usize>,
 }
 
 /// A pointer to what was read.
@@ -253,15 +253,16 @@ impl<
             let Mark::Comma = mark_at(self.tokens, place) else {
                 return Ok(Parameters {
                     list,
-                    variadic: false,
+                    variadic: None,
                 });
             };
             place.skip();
             if let Mark::Ellipsis = mark_at(self.tokens, place) {
+                let at = place.at();
                 place.skip();
                 return Ok(Parameters {
                     list,
-                    variadic: true,
+                    variadic: Some(at),
                 });
             }
         }
@@ -304,7 +305,7 @@ impl<
         place.skip();
         let taken = Parameters {
             list: Items::new(self.alloc),
-            variadic: false,
+            variadic: None,
         };
         Ok(shapes::function(self.alloc, titled, taken, Stack::new(self.alloc), at)?)
     }

@@ -9,7 +9,7 @@ ghost use Rattle.c_cursor.specs.Reads.{titled_of};
 use crate::declarators::Parameters;
 use crate::sizes::array_of;
 use c_boxes::beside;
-use c_cursor::{Block, Titled};
+use c_cursor::{BlockScope, Titled};
 use c_tree::{Declarator, Expression, Qualifier};
 use kv_base::{NoMemory, Sequence};
 use sqlite_items::Boxed;
@@ -116,7 +116,7 @@ pub fn open_array(alloc: Global, titled: Titled, at: usize) -> Result<Titled, No
 }
 
 /// The parameters nearest to the name: those that were found before, or these.
-fn nearest(found: Option<Block>, here: Block) -> Option<Block>
+fn nearest(found: Option<BlockScope>, here: BlockScope) -> Option<BlockScope>
     ensures { result ≡ spelled.nearest found here }
 {
     found.or(Some(here))
@@ -127,7 +127,7 @@ pub fn function(
     alloc: Global,
     titled: Titled,
     taken: Parameters,
-    block: Block,
+    block: BlockScope,
     at: usize,
 ) -> Result<Titled, NoMemory>
     ensures { IfOk result (λ made. titled_of made ≡ spec.Titles titled.name (spelled.nearest titled.parameters block) (tree.Function titled.inner taken.list taken.variadic at)) }

@@ -12,7 +12,7 @@ use Rattle.c_tree.specs.declared.expression.AssignOperator.TheVariants as assign
 use Rattle.c_tree.specs.Places.{Place, names_type}
 use Rattle.c_tree.specs.Signs.{level}
 pub use Rattle.c_grammar.specs.declared.kinds.Suffix.{Suffix}
-pub use Rattle.c_grammar.specs.declared.kinds.Suffix.TheVariants.{Infix, Assigns, Asks, Commas, Subscripts, Calls, Selects, Points, Steps, ClosesRound, ClosesSquare, Colons, NoSuffix}
+pub use Rattle.c_grammar.specs.declared.kinds.Suffix.TheVariants.{Infix, Assigns, Asks, Commas, Subscripts, Calls, Selects, Points, Steps, NoSuffix}
 
 abbrev pub kind_at : List TokenKind → Place → Option TokenKind
 kind_at kinds p = slice_get kinds p.at
@@ -57,9 +57,6 @@ suffix_of token.Dot = Selects
 suffix_of token.Arrow = Points
 suffix_of token.Increment = Steps step.Increment
 suffix_of token.Decrement = Steps step.Decrement
-suffix_of token.RightParenthesis = ClosesRound
-suffix_of token.RightBracket = ClosesSquare
-suffix_of token.Colon = Colons
 suffix_of _ = NoSuffix
 
 abbrev pub suffix : Option TokenKind → Suffix
@@ -77,9 +74,6 @@ needs Calls = 15
 needs Selects = 15
 needs Points = 15
 needs (Steps step) = 15
-needs ClosesRound = 16
-needs ClosesSquare = 16
-needs Colons = 16
 needs NoSuffix = 16
 
 -- it goes on only where an expression of a level below this is read; nowhere, where it is no operator
@@ -93,9 +87,6 @@ below Calls = 16
 below Selects = 16
 below Points = 16
 below (Steps step) = 16
-below ClosesRound = 0
-below ClosesSquare = 0
-below Colons = 0
 below NoSuffix = 0
 
 -- an operand of the first level goes on with it, where an expression of at least the second level is read

@@ -3,6 +3,6 @@ pub mod Marks
 pub mod ReadStatements
 pub mod ReadText
 pub mod ReadTypes
-pub mod Reader
+pub mod ReadExpressions
 pub mod Readers
 pub mod Suffixes

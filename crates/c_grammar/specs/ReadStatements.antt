@@ -19,7 +19,8 @@ use Rattle.c_tree.specs.Places.{Place, next, declare, enter, leave}
 use Rattle.c_grammar.specs.Kinds.{begins_type}
 use Rattle.c_grammar.specs.Marks as sign
 use Rattle.c_grammar.specs.Marks.{Mark, mark_at}
-use Rattle.c_grammar.specs.Reader.{Outcome, Gives, Refuses, and_then, Reader}
+use Rattle.c_grammar.specs.ReadExpressions.{Outcome, Gives, Refuses, and_then, ReadsExpression}
+pub use Rattle.c_grammar.specs.ReadExpressions.{where_colon}
 use Rattle.c_grammar.specs.ReadTypes.{where_opens, where_closes, where_curly_closes, where_semicolon, ListOf, separated, listed, Specified, Specifies, Titled, Titles, ReadsDeclarator}
 use Rattle.c_grammar.specs.Readers.{read, specifiers, declarator}
 
@@ -29,10 +30,10 @@ abbrev pub ReadsInitialiser : Type 0
 ReadsInitialiser = Place → Outcome Initialiser
 
 -- 6.7.9
-abbrev pub initialiser_by : List TokenKind → Reader → ListOf Initialiser → Place → Mark → Outcome Initialiser
+abbrev pub initialiser_by : List TokenKind → ReadsExpression → ListOf Initialiser → Place → Mark → Outcome Initialiser
 initialiser_by kinds rd parts p sign.CurlyOpens =
     and_then (parts (next p)) (λ xs q. where_curly_closes (mark_at kinds q) (Gives (initialiser_node.Braces xs p.at) (next q)))
-initialiser_by kinds rd parts p _ = and_then (rd 1 p) (λ x q. Gives (initialiser_node.Value x) q)
+initialiser_by kinds rd parts p _ = and_then (rd 1 p) (λ x q. Gives (initialiser_node.Value x p.at) q)
 
 unfoldable pub initialiser : List TokenKind → ℕ → ReadsInitialiser
 initialiser kinds zero p = Refuses
@@ -78,27 +79,27 @@ abbrev pub ReadsDeclaration : Type 0
 ReadsDeclaration = Place → Outcome Declaration
 
 -- `( expression )`
-abbrev pub test : List TokenKind → Reader → Place → Outcome Expression
+abbrev pub test : List TokenKind → ReadsExpression → Place → Outcome Expression
 test kinds rd p = where_opens (mark_at kinds p) (and_then (rd 0 (next p)) (λ x q. where_closes (mark_at kinds q) (Gives x (next q))))
 
 abbrev pub some : Expression → Place → Outcome (Option Expression)
 some x q = Gives (Some x) q
 
 -- an expression or nothing before a `;`, and before a `)`
-abbrev pub optional_by : Reader → Place → Mark → Outcome (Option Expression)
+abbrev pub optional_by : ReadsExpression → Place → Mark → Outcome (Option Expression)
 optional_by rd p sign.Semicolon = Gives None p
 optional_by rd p _ = and_then (rd 0 p) some
 
-abbrev pub optional_step_by : Reader → Place → Mark → Outcome (Option Expression)
+abbrev pub optional_step_by : ReadsExpression → Place → Mark → Outcome (Option Expression)
 optional_step_by rd p sign.RoundCloses = Gives None p
 optional_step_by rd p _ = and_then (rd 0 p) some
 
 -- 6.8.5.3
-abbrev pub start_else : List TokenKind → Reader → ReadsDeclaration → Place → Bool → Outcome ForStart
+abbrev pub start_else : List TokenKind → ReadsExpression → ReadsDeclaration → Place → Bool → Outcome ForStart
 start_else kinds rd dn p true = and_then (dn p) (λ x q. Gives (start_node.Declared x) q)
 start_else kinds rd dn p false = and_then (rd 0 p) (λ x q. where_semicolon (mark_at kinds q) (Gives (start_node.Value x) (next q)))
 
-abbrev pub start_by : List TokenKind → Reader → ReadsDeclaration → Place → Mark → Outcome ForStart
+abbrev pub start_by : List TokenKind → ReadsExpression → ReadsDeclaration → Place → Mark → Outcome ForStart
 start_by kinds rd dn p sign.Semicolon = Gives start_node.Nothing (next p)
 start_by kinds rd dn p _ = start_else kinds rd dn p (begins_type kinds p)
 
@@ -131,7 +132,7 @@ abbrev pub chain_of : List TokenKind → ReadsStatement → (Place → Outcome C
 chain_of kinds st more p x q = and_then (st (enter q)) (λ body r. chain_by kinds st more (record { test = x; body = body; at = p.at }) r (mark_at kinds r))
 
 -- p is the place of an `if`; the number bounds how many there are
-unfoldable pub chain : List TokenKind → Reader → ReadsStatement → ℕ → Place → Outcome Chain
+unfoldable pub chain : List TokenKind → ReadsExpression → ReadsStatement → ℕ → Place → Outcome Chain
 chain kinds rd st zero p = Refuses
 chain kinds rd st (suc n) p = and_then (test kinds rd (enter (next p))) (chain_of kinds st (chain kinds rd st n) p)
 
@@ -169,27 +170,23 @@ block kinds dn st zero p = Refuses
 block kinds dn st (suc n) p = block_by kinds dn st (block kinds dn st n) p (mark_at kinds p)
 
 -- 6.8.3
-abbrev pub value_statement : List TokenKind → Reader → Place → Outcome Statement
+abbrev pub value_statement : List TokenKind → ReadsExpression → Place → Outcome Statement
 value_statement kinds rd p = and_then (rd 0 p) (λ x q. where_semicolon (mark_at kinds q) (Gives (statement_node.Value x q.at) (next q)))
 
 abbrev pub block_statement : List TokenKind → ListOf BlockItem → Place → Outcome Statement
 block_statement kinds items p =
     and_then (items (enter (next p))) (λ xs q. where_curly_closes (mark_at kinds q) (Gives (statement_node.Block xs p.at) (leave (next q))))
 
-abbrev pub where_colon : {B : Type 0} → Mark → Outcome B → Outcome B
-where_colon sign.Colon o = o
-where_colon _ o = Refuses
-
 abbrev pub where_while : {B : Type 0} → Mark → Outcome B → Outcome B
 where_while sign.While o = o
 where_while _ o = Refuses
 
 -- 6.8.1
-abbrev pub name_statement : List TokenKind → Reader → ReadsStatement → Place → List ℕ → Mark → Outcome Statement
+abbrev pub name_statement : List TokenKind → ReadsExpression → ReadsStatement → Place → List ℕ → Mark → Outcome Statement
 name_statement kinds rd st p text sign.Colon = and_then (labelled kinds st (next (next p))) (λ body q. Gives (statement_node.Label text body p.at) q)
 name_statement kinds rd st p text _ = value_statement kinds rd p
 
-abbrev pub case_statement : List TokenKind → Reader → ReadsStatement → Place → Outcome Statement
+abbrev pub case_statement : List TokenKind → ReadsExpression → ReadsStatement → Place → Outcome Statement
 case_statement kinds rd st p =
     and_then (rd 2 (next p)) (λ x q. where_colon (mark_at kinds q) (and_then (labelled kinds st (next q)) (λ body r. Gives (statement_node.Case x body p.at) r)))
 
@@ -198,33 +195,33 @@ default_statement kinds st p =
     where_colon (mark_at kinds (next p)) (and_then (labelled kinds st (next (next p))) (λ body q. Gives (statement_node.Default body p.at) q))
 
 -- 6.8.4.2
-abbrev pub switch_statement : List TokenKind → Reader → ReadsStatement → Place → Outcome Statement
+abbrev pub switch_statement : List TokenKind → ReadsExpression → ReadsStatement → Place → Outcome Statement
 switch_statement kinds rd st p =
     and_then (test kinds rd (enter (next p))) (λ x q. and_then (st (enter q)) (λ body r. Gives (statement_node.Switch x body p.at) (leave (leave r))))
 
 -- 6.8.5
-abbrev pub while_statement : List TokenKind → Reader → ReadsStatement → Place → Outcome Statement
+abbrev pub while_statement : List TokenKind → ReadsExpression → ReadsStatement → Place → Outcome Statement
 while_statement kinds rd st p =
     and_then (test kinds rd (enter (next p))) (λ x q. and_then (st (enter q)) (λ body r. Gives (statement_node.While x body p.at) (leave (leave r))))
 
-abbrev pub do_after : List TokenKind → Reader → Place → Statement → Place → Outcome Statement
+abbrev pub do_after : List TokenKind → ReadsExpression → Place → Statement → Place → Outcome Statement
 do_after kinds rd p body q =
     where_while (mark_at kinds q) (and_then (test kinds rd (leave (next q)))
     (λ x r. where_semicolon (mark_at kinds r) (Gives (statement_node.Do body x p.at) (leave (next r)))))
 
-abbrev pub do_statement : List TokenKind → Reader → ReadsStatement → Place → Outcome Statement
+abbrev pub do_statement : List TokenKind → ReadsExpression → ReadsStatement → Place → Outcome Statement
 do_statement kinds rd st p = and_then (st (enter (enter (next p)))) (do_after kinds rd p)
 
 -- after the first part of a `for`, and after its test
-abbrev pub for_step : List TokenKind → Reader → ReadsStatement → Place → ForStart → Option Expression → Place → Outcome Statement
+abbrev pub for_step : List TokenKind → ReadsExpression → ReadsStatement → Place → ForStart → Option Expression → Place → Outcome Statement
 for_step kinds rd st p first x r =
     where_semicolon (mark_at kinds r) (and_then (optional_step_by rd (next r) (mark_at kinds (next r))) (λ y s. where_closes (mark_at kinds s)
     (and_then (st (enter (next s))) (λ body t. Gives (statement_node.For first x y body p.at) (leave (leave t))))))
 
-abbrev pub for_test : List TokenKind → Reader → ReadsStatement → Place → ForStart → Place → Outcome Statement
+abbrev pub for_test : List TokenKind → ReadsExpression → ReadsStatement → Place → ForStart → Place → Outcome Statement
 for_test kinds rd st p first q = and_then (optional_by rd q (mark_at kinds q)) (for_step kinds rd st p first)
 
-abbrev pub for_statement : List TokenKind → Reader → ReadsDeclaration → ReadsStatement → Place → Outcome Statement
+abbrev pub for_statement : List TokenKind → ReadsExpression → ReadsDeclaration → ReadsStatement → Place → Outcome Statement
 for_statement kinds rd dn st p =
     where_opens (mark_at kinds (next p))
     (and_then (start_by kinds rd dn (enter (next (next p))) (mark_at kinds (enter (next (next p))))) (for_test kinds rd st p))
@@ -233,11 +230,11 @@ for_statement kinds rd dn st p =
 abbrev pub plain_statement : List TokenKind → Statement → Place → Outcome Statement
 plain_statement kinds x p = where_semicolon (mark_at kinds (next p)) (Gives x (next (next p)))
 
-abbrev pub return_statement : List TokenKind → Reader → Place → Outcome Statement
+abbrev pub return_statement : List TokenKind → ReadsExpression → Place → Outcome Statement
 return_statement kinds rd p =
     and_then (optional_by rd (next p) (mark_at kinds (next p))) (λ x q. where_semicolon (mark_at kinds q) (Gives (statement_node.Return x p.at) (next q)))
 
-abbrev pub statement_by : List TokenKind → Reader → ReadsDeclaration → ReadsStatement → ℕ → Place → Mark → Outcome Statement
+abbrev pub statement_by : List TokenKind → ReadsExpression → ReadsDeclaration → ReadsStatement → ℕ → Place → Mark → Outcome Statement
 statement_by kinds rd dn st n p sign.CurlyOpens = block_statement kinds (block kinds dn st n) p
 statement_by kinds rd dn st n p sign.Semicolon = Gives (statement_node.Empty p.at) (next p)
 statement_by kinds rd dn st n p (sign.Name text) = name_statement kinds rd st p text (mark_at kinds (next p))

@@ -12,7 +12,7 @@ use Rattle.c_tree.specs.SpellsText.{parameters_of, beginning}
 use Rattle.c_grammar.specs.Kinds.{kind_at}
 use Rattle.c_grammar.specs.Marks as sign
 use Rattle.c_grammar.specs.Marks.{Mark, mark_at}
-use Rattle.c_grammar.specs.Reader.{Outcome, Gives, Refuses, and_then}
+use Rattle.c_grammar.specs.ReadExpressions.{Outcome, Gives, Refuses, and_then}
 use Rattle.c_grammar.specs.ReadTypes.{where_curly_closes, ListOf, separated_after, Specified, Specifies, Titled, Titles}
 use Rattle.c_grammar.specs.Readers.{specifiers, declarator}
 use Rattle.c_grammar.specs.ReadStatements.{initialiser, declared_after, declaration_end, names_with, declaration, block, statement}

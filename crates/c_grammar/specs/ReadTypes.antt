@@ -20,28 +20,8 @@ use Rattle.c_tree.specs.Spells.{Role, Types, Modifies, storage_role, types_now, 
 use Rattle.c_grammar.specs.Kinds.{kind_at, Start, Word, TypedefName, NoStart, start}
 use Rattle.c_grammar.specs.Marks as sign
 use Rattle.c_grammar.specs.Marks.{Bracketing, Opens, Closes, NoBracket, NoToken, bracketing, same_bracket, Mark, mark_at}
-use Rattle.c_grammar.specs.Reader.{Outcome, Gives, Refuses, and_then, Reader}
-
--- only where this mark comes next
-abbrev pub where_opens : {B : Type 0} → Mark → Outcome B → Outcome B
-where_opens sign.RoundOpens o = o
-where_opens _ o = Refuses
-
-abbrev pub where_closes : {B : Type 0} → Mark → Outcome B → Outcome B
-where_closes sign.RoundCloses o = o
-where_closes _ o = Refuses
-
-abbrev pub where_square_closes : {B : Type 0} → Mark → Outcome B → Outcome B
-where_square_closes sign.SquareCloses o = o
-where_square_closes _ o = Refuses
-
-abbrev pub where_curly_closes : {B : Type 0} → Mark → Outcome B → Outcome B
-where_curly_closes sign.CurlyCloses o = o
-where_curly_closes _ o = Refuses
-
-abbrev pub where_semicolon : {B : Type 0} → Mark → Outcome B → Outcome B
-where_semicolon sign.Semicolon o = o
-where_semicolon _ o = Refuses
+use Rattle.c_grammar.specs.ReadExpressions.{Outcome, Gives, Refuses, and_then, ReadsExpression}
+pub use Rattle.c_grammar.specs.ReadExpressions.{where_opens, where_closes, where_square_closes, where_curly_closes, where_semicolon}
 
 -- ---- what has no meaning
 
@@ -134,15 +114,15 @@ qualifiers kinds zero p = Refuses
 qualifiers kinds (suc n) p = qualifiers_by (qualifiers kinds n) p (mark_at kinds p)
 
 -- 6.7.2.1
-abbrev pub member_after : Reader → Titled → Place → Mark → Outcome Member
+abbrev pub member_after : ReadsExpression → Titled → Place → Mark → Outcome Member
 member_after rd (Titles name parameters inner) q sign.Colon = and_then (rd 2 (next q)) (λ width r. Gives (member_node.BitField inner width q.at) r)
 member_after rd (Titles name parameters inner) q _ = Gives (member_node.Plain inner) q
 
-abbrev pub member_by : List TokenKind → Reader → ReadsDeclarator → Place → Mark → Outcome Member
+abbrev pub member_by : List TokenKind → ReadsExpression → ReadsDeclarator → Place → Mark → Outcome Member
 member_by kinds rd dc p sign.Colon = and_then (rd 2 (next p)) (λ width q. Gives (member_node.UnnamedBitField width p.at) q)
 member_by kinds rd dc p _ = and_then (dc p) (λ d q. member_after rd d q (mark_at kinds q))
 
-abbrev pub member : List TokenKind → Reader → ReadsDeclarator → Place → Outcome Member
+abbrev pub member : List TokenKind → ReadsExpression → ReadsDeclarator → Place → Outcome Member
 member kinds rd dc p = member_by kinds rd dc p (mark_at kinds p)
 
 abbrev pub line_after : List TokenKind → (Place → Outcome (List Member)) → ListOf MemberLine → Specified → Place → Outcome (List MemberLine)
@@ -159,15 +139,15 @@ lines kinds sp members zero p = Refuses
 lines kinds sp members (suc n) p = lines_by kinds sp members (lines kinds sp members n) p (mark_at kinds p)
 
 -- 6.7.2.2
-abbrev pub constant_after : Reader → List ℕ → Place → Mark → Outcome EnumConstant
+abbrev pub constant_after : ReadsExpression → List ℕ → Place → Mark → Outcome EnumConstant
 constant_after rd text p sign.Equals = and_then (rd 2 (next (next p))) (λ value q. Gives (constant_node.Valued text value p.at) (declare q text false))
 constant_after rd text p _ = Gives (constant_node.Next text p.at) (declare (next p) text false)
 
-abbrev pub constant_by : List TokenKind → Reader → Place → Mark → Outcome EnumConstant
+abbrev pub constant_by : List TokenKind → ReadsExpression → Place → Mark → Outcome EnumConstant
 constant_by kinds rd p (sign.Name text) = constant_after rd text p (mark_at kinds (next p))
 constant_by kinds rd p _ = Refuses
 
-abbrev pub constant : List TokenKind → Reader → Place → Outcome EnumConstant
+abbrev pub constant : List TokenKind → ReadsExpression → Place → Outcome EnumConstant
 constant kinds rd p = constant_by kinds rd p (mark_at kinds p)
 
 -- 6.7.2.1: p is the place of `struct`, q that of what follows it and its tag
@@ -244,16 +224,16 @@ all_specifiers kinds struct enum n p = and_then (attributes kinds n p) (λ u q. 
 
 -- ---- declarators
 
--- 6.7.6.3: parameters; whether `, ...` ends them
+-- 6.7.6.3: parameters; the number of the `...` that ends them
 pub data Takes : Type 0 where
-  Taken : (list : List Parameter) (variadic : Bool) → Takes
+  Taken : (list : List Parameter) (variadic : Option ℕ) → Takes
 
 -- what follows a direct declarator
 abbrev pub Suffixes : Type 0
 Suffixes = Titled → Place → Outcome Titled
 
 -- after `[`
-abbrev pub array_by : List TokenKind → Reader → Suffixes → Titled → Place → Mark → Outcome Titled
+abbrev pub array_by : List TokenKind → ReadsExpression → Suffixes → Titled → Place → Mark → Outcome Titled
 array_by kinds rd go (Titles name parameters inner) q sign.SquareCloses = go (Titles name parameters (declarator_node.OpenArray inner q.at)) (next (next q))
 array_by kinds rd go (Titles name parameters inner) q _ =
     and_then (rd 2 (next q)) (λ size r. where_square_closes (mark_at kinds r) (go (Titles name parameters (declarator_node.Array inner size q.at)) (next r)))
@@ -265,16 +245,16 @@ with_parameters kinds go (Titles name parameters inner) q (Taken list variadic) 
 
 abbrev pub function_by : List TokenKind → (Place → Outcome Takes) → Suffixes → Titled → Place → Mark → Outcome Titled
 function_by kinds list go (Titles name parameters inner) q sign.RoundCloses =
-    go (Titles name (nearest parameters []) (declarator_node.Function inner [] false q.at)) (next (next q))
+    go (Titles name (nearest parameters []) (declarator_node.Function inner [] None q.at)) (next (next q))
 function_by kinds list go d q _ = and_then (list (enter (next q))) (with_parameters kinds go d q)
 
-abbrev pub suffixes_by : List TokenKind → Reader → (Place → Outcome Takes) → Suffixes → Titled → Place → Mark → Outcome Titled
+abbrev pub suffixes_by : List TokenKind → ReadsExpression → (Place → Outcome Takes) → Suffixes → Titled → Place → Mark → Outcome Titled
 suffixes_by kinds rd list go d q sign.SquareOpens = array_by kinds rd go d q (mark_at kinds (next q))
 suffixes_by kinds rd list go d q sign.RoundOpens = function_by kinds list go d q (mark_at kinds (next q))
 suffixes_by kinds rd list go d q _ = Gives d q
 
 -- the number bounds how many there are
-unfoldable pub suffixes : List TokenKind → Reader → (Place → Outcome Takes) → ℕ → Suffixes
+unfoldable pub suffixes : List TokenKind → ReadsExpression → (Place → Outcome Takes) → ℕ → Suffixes
 suffixes kinds rd list zero d q = Refuses
 suffixes kinds rd list (suc n) d q = suffixes_by kinds rd list (suffixes kinds rd list n) d q (mark_at kinds q)
 
@@ -324,33 +304,33 @@ abbrev pub first_taken : Parameter → Takes → Place → Outcome Takes
 first_taken x (Taken list variadic) q = Gives (Taken (x ∷ list) variadic) q
 
 abbrev pub parameters_comma : (Place → Outcome Takes) → Parameter → Place → Mark → Outcome Takes
-parameters_comma more x q sign.Ellipsis = Gives (Taken (x ∷ []) true) (next q)
+parameters_comma more x q sign.Ellipsis = Gives (Taken (x ∷ []) (Some q.at)) (next q)
 parameters_comma more x q _ = and_then (more q) (first_taken x)
 
 abbrev pub parameters_after : List TokenKind → (Place → Outcome Takes) → Parameter → Place → Mark → Outcome Takes
 parameters_after kinds more x q sign.Comma = parameters_comma more x (next q) (mark_at kinds (next q))
-parameters_after kinds more x q _ = Gives (Taken (x ∷ []) false) q
+parameters_after kinds more x q _ = Gives (Taken (x ∷ []) None) q
 
 unfoldable pub parameters : List TokenKind → (Place → Outcome Parameter) → ℕ → Place → Outcome Takes
 parameters kinds one zero p = Refuses
 parameters kinds one (suc n) p = and_then (one p) (λ x q. parameters_after kinds (parameters kinds one n) x q (mark_at kinds q))
 
 -- after a token of a declarator, over what reads the parts with this number
-abbrev pub suffixes_with : List TokenKind → Reader → ReadsSpecifiers → ReadsPerhaps → ℕ → Suffixes
+abbrev pub suffixes_with : List TokenKind → ReadsExpression → ReadsSpecifiers → ReadsPerhaps → ℕ → Suffixes
 suffixes_with kinds rd sp one n = suffixes kinds rd (parameters kinds (parameter (attributes kinds n) sp one) n) n
 
 -- a declarator or none: one that one token more begins
-abbrev pub perhaps_with : List TokenKind → Reader → ReadsSpecifiers → ReadsPerhaps → ℕ → Place → Mark → Outcome Perhaps
+abbrev pub perhaps_with : List TokenKind → ReadsExpression → ReadsSpecifiers → ReadsPerhaps → ℕ → Place → Mark → Outcome Perhaps
 perhaps_with kinds rd sp one n p m = perhaps_by kinds (suffixes_with kinds rd sp one n) (qualifiers kinds n) (decorated (attributes kinds n) one) one p m
 
 -- ---- type names (6.7.7)
 
-abbrev pub arrays_by : List TokenKind → Reader → (Declarator → Place → Outcome Declarator) → Declarator → Place → Mark → Outcome Declarator
+abbrev pub arrays_by : List TokenKind → ReadsExpression → (Declarator → Place → Outcome Declarator) → Declarator → Place → Mark → Outcome Declarator
 arrays_by kinds rd go inner q sign.SquareOpens =
     and_then (rd 2 (next q)) (λ size r. where_square_closes (mark_at kinds r) (go (declarator_node.Array inner size q.at) (next r)))
 arrays_by kinds rd go inner q _ = Gives inner q
 
-unfoldable pub arrays : List TokenKind → Reader → ℕ → Declarator → Place → Outcome Declarator
+unfoldable pub arrays : List TokenKind → ReadsExpression → ℕ → Declarator → Place → Outcome Declarator
 arrays kinds rd zero inner q = Refuses
 arrays kinds rd (suc n) inner q = arrays_by kinds rd (arrays kinds rd n) inner q (mark_at kinds q)
 
@@ -362,12 +342,12 @@ abbrev pub unnamed_by : (Declarator → Place → Outcome Declarator) → (Place
 unnamed_by go list more p sign.Star = and_then (list (next p)) (unnamed_pointed more p.at)
 unnamed_by go list more p _ = go (declarator_node.Unnamed p.at) p
 
-unfoldable pub unnamed : List TokenKind → Reader → ℕ → Place → Outcome Declarator
+unfoldable pub unnamed : List TokenKind → ReadsExpression → ℕ → Place → Outcome Declarator
 unnamed kinds rd zero p = Refuses
 unnamed kinds rd (suc n) p = unnamed_by (arrays kinds rd (suc n)) (qualifiers kinds n) (unnamed kinds rd n) p (mark_at kinds p)
 
 abbrev pub named_type : (Place → Outcome Declarator) → Specified → Place → Outcome TypeName
 named_type one (Specifies defines list) q = and_then (one q) (λ inner r. Gives (record { specifiers = list; declarator = inner }) r)
 
-abbrev pub type_name : List TokenKind → Reader → ReadsSpecifiers → ℕ → Place → Outcome TypeName
+abbrev pub type_name : List TokenKind → ReadsExpression → ReadsSpecifiers → ℕ → Place → Outcome TypeName
 type_name kinds rd sp n p = and_then (sp p) (named_type (unnamed kinds rd n))

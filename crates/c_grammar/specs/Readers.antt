@@ -5,19 +5,19 @@ use Rattle.c_tree.specs.declared.expression.MemberLine.{MemberLine}
 use Rattle.c_tree.specs.declared.expression.EnumConstant.{EnumConstant}
 use Rattle.c_grammar.specs.Kinds.{kind_at, suffix, goes_on, prefix}
 use Rattle.c_grammar.specs.Marks.{mark_at}
-use Rattle.c_grammar.specs.Reader.{Gives, Refuses, Reader, Continues, Types, items, suffix_taken, prefix_taken}
+use Rattle.c_grammar.specs.ReadExpressions.{Gives, Refuses, ReadsExpression, Continues, Types, items, suffix_taken, prefix_taken}
 use Rattle.c_grammar.specs.ReadTypes.{ListOf, ReadsSpecifiers, ReadsDeclarator, ReadsPerhaps, attributes, separated, listed, member, lines, constant, all_specifiers, decorated, perhaps_with, type_name}
 
 -- the lines of a struct, over what reads the parts with this number
-abbrev pub struct_with : List TokenKind → Reader → ReadsSpecifiers → ReadsPerhaps → ℕ → ListOf MemberLine
+abbrev pub struct_with : List TokenKind → ReadsExpression → ReadsSpecifiers → ReadsPerhaps → ℕ → ListOf MemberLine
 struct_with kinds rd sp one n = lines kinds sp (separated kinds (member kinds rd (decorated (attributes kinds n) one)) n) n
 
-abbrev pub enum_with : List TokenKind → Reader → ℕ → ListOf EnumConstant
+abbrev pub enum_with : List TokenKind → ReadsExpression → ℕ → ListOf EnumConstant
 enum_with kinds rd n = listed kinds (constant kinds rd) n
 
 unfoldable mutual
   -- an expression of this level or above; the number bounds the steps
-  pub read : List TokenKind → ℕ → Reader
+  pub read : List TokenKind → ℕ → ReadsExpression
   read kinds zero least p = Refuses
   read kinds (suc n) least p = prefix_taken kinds (read kinds n) (type_name kinds (read kinds n) (specifiers kinds n) n) (more kinds n) least p (prefix (kind_at kinds p))
 

@@ -39,12 +39,6 @@ pub enum Suffix {
     Points,
     /// `++` or `--`
     Steps(Step),
-    /// `)`
-    ClosesRound,
-    /// `]`
-    ClosesSquare,
-    /// `:`
-    Colons,
     NoSuffix,
 }
 
@@ -90,9 +84,6 @@ pub fn suffix_of(kind: &TokenKind) -> Suffix
         TokenKind::Arrow => Suffix::Points,
         TokenKind::Increment => Suffix::Steps(Step::Increment),
         TokenKind::Decrement => Suffix::Steps(Step::Decrement),
-        TokenKind::RightParenthesis => Suffix::ClosesRound,
-        TokenKind::RightBracket => Suffix::ClosesSquare,
-        TokenKind::Colon => Suffix::Colons,
         _ => Suffix::NoSuffix,
     }
 }
@@ -134,7 +125,7 @@ impl Suffix {
             | Suffix::Selects
             | Suffix::Points
             | Suffix::Steps(_) => 15,
-            Suffix::ClosesRound | Suffix::ClosesSquare | Suffix::Colons | Suffix::NoSuffix => 16,
+            Suffix::NoSuffix => 16,
         }
     }
 
@@ -152,7 +143,7 @@ impl Suffix {
             | Suffix::Selects
             | Suffix::Points
             | Suffix::Steps(_) => 16,
-            Suffix::ClosesRound | Suffix::ClosesSquare | Suffix::Colons | Suffix::NoSuffix => 0,
+            Suffix::NoSuffix => 0,
         }
     }
 

@@ -20,9 +20,11 @@ use Rattle.c_tree.specs.Signs.{step_sign, unary_sign, binary_sign, assign_sign, 
 use Rattle.c_tree.specs.Spells as grammar
 use Rattle.c_tree.specs.Spells.{IsExpression, AreAssignments, IsTypeName}
 use Rattle.c_grammar.specs.declared.kinds.Suffix.{Suffix}
-use Rattle.c_grammar.specs.declared.kinds.Suffix.TheVariants.{Infix, Assigns, Asks, Commas, Subscripts, Calls, Selects, Points, Steps, ClosesRound, ClosesSquare, Colons}
+use Rattle.c_grammar.specs.declared.kinds.Suffix.TheVariants.{Infix, Assigns, Asks, Commas, Subscripts, Calls, Selects, Points, Steps, NoSuffix}
 use Rattle.c_grammar.specs.Kinds.{kind_at, suffix, suffix_of, needs, below, goes_on, Prefix, Names, Constants, Texts, Opens, StepsFirst, Operates, Sizes, prefix, prefix_of, begins_type, is_start, start, start_of}
-use Rattle.c_grammar.specs.Reader.{Gives, Refuses, and_then, where_round, where_square, where_colon, where_name, Reader, Continues, Lists, Types, items, items_after, call_of, choice_of, suffix_taken, bracketed, sized_by, sized, prefix_taken}
+use Rattle.c_grammar.specs.Marks as sign
+use Rattle.c_grammar.specs.Marks.{Mark, mark, mark_of, mark_at}
+use Rattle.c_grammar.specs.ReadExpressions.{Gives, Refuses, and_then, where_closes, where_square_closes, where_colon, where_name, ReadsExpression, Continues, Lists, Types, items, items_after, call_of, choice_of, suffix_taken, bracketed, sized_by, sized, prefix_taken}
 use Rattle.c_grammar.specs.Readers.{read, more, types}
 use Rattle.c_grammar_laws.proofs.KindLaws.{suffix-binary_sign, suffix-assign_sign, suffix-step_sign, prefix-unary_sign, prefix-step_sign, level_high, below_needs, ends_unary, ends_conditional, ends_whole}
 use Rattle.c_grammar_laws.proofs.Steps.{goes_true, goes_not_below, more_ends, more_goes, read_none, read_on, items_on}
@@ -159,7 +161,7 @@ pub brackets_goes : (kinds : List TokenKind) (p q : Place) (x : Expression) → 
     → Reaches kinds 0 (next p) q x → At kinds q token.RightParenthesis → Reaches kinds 15 p (next q) x
 brackets_goes kinds p q x a f ih c n least h l s e =
     let b = begun kinds n least p token.LeftParenthesis Opens a refl e in
-    let i = exact kinds 0 (next p) q x ih b.0 (omega arith) (below_at kinds 0 q token.RightParenthesis ClosesRound c refl (omega arith)) b.1 in
+    let i = exact kinds 0 (next p) q x ih b.0 (omega arith) (below_at kinds 0 q token.RightParenthesis NoSuffix c refl (omega arith)) b.1 in
     let lt : p.at + 1 < q.at = i.0 in
     let rd = read kinds b.0 in
     let go = more kinds b.0 in (
@@ -168,8 +170,8 @@ brackets_goes kinds p q x a f ih c n least h l s e =
       omega arith,
       b.2
           ∙ ap (bracketed kinds rd (types kinds b.0) go least p) f
-          ∙ ap (λ o. and_then o (λ y v. where_round (suffix (kind_at kinds v)) (go 15 least y (next v)))) i.1
-          ∙ ap (λ z. where_round (suffix z) (go 15 least x (next q))) c,
+          ∙ ap (λ o. and_then o (λ y v. where_closes (mark_at kinds v) (go 15 least y (next v)))) i.1
+          ∙ ap (λ z. where_closes (mark z) (go 15 least x (next q))) c,
     )
 
 -- ---- postfix expressions
@@ -179,7 +181,7 @@ pub subscript_goes : (kinds : List TokenKind) (p q r : Place) (x y : Expression)
 subscript_goes kinds p q r x y ihx a ihy c n least h l s e =
     let i = ihx n least h l (goes_by_needs kinds least 15 q token.LeftBracket Subscripts a refl (omega arith)) e in
     let t = taken kinds i.0 15 least x q token.LeftBracket Subscripts a refl (omega arith) (omega arith) i.1 in
-    let j = exact kinds 0 (next q) r y ihy t.0 (omega arith) (below_at kinds 0 r token.RightBracket ClosesSquare c refl (omega arith)) t.1 in
+    let j = exact kinds 0 (next q) r y ihy t.0 (omega arith) (below_at kinds 0 r token.RightBracket NoSuffix c refl (omega arith)) t.1 in
     let lp : p.at < q.at = i.2 in
     let lt : q.at + 1 < r.at = j.0 in
     let go = more kinds t.0 in (
@@ -187,8 +189,8 @@ subscript_goes kinds p q r x y ihx a ihy c n least h l s e =
       omega (arith, t.1),
       omega arith,
       i.3 ∙ t.2
-          ∙ ap (λ o. and_then o (λ z v. where_square (suffix (kind_at kinds v)) (go 15 least (tree.Subscript x z q.at) (next v)))) j.1
-          ∙ ap (λ z. where_square (suffix z) (go 15 least (tree.Subscript x y q.at) (next r))) c,
+          ∙ ap (λ o. and_then o (λ z v. where_square_closes (mark_at kinds v) (go 15 least (tree.Subscript x z q.at) (next v)))) j.1
+          ∙ ap (λ z. where_square_closes (mark z) (go 15 least (tree.Subscript x y q.at) (next r))) c,
     )
 
 pub call_empty_goes : (kinds : List TokenKind) (p q : Place) (x : Expression) → Reaches kinds 15 p q x → At kinds q token.LeftParenthesis
@@ -201,24 +203,24 @@ call_empty_goes kinds p q x ihx a c n least h l s e =
       omega (arith, t.1),
       omega arith,
       i.3 ∙ t.2
-          ∙ ap (λ z. call_of kinds (items kinds (read kinds t.0) t.0) (more kinds t.0) least x q (suffix z)) c,
+          ∙ ap (λ z. call_of kinds (items kinds (read kinds t.0) t.0) (more kinds t.0) least x q (mark z)) c,
     )
 
 -- no argument begins with `)`
-abbrev NotRound : Suffix → Type 0
-NotRound ClosesRound = ⊥
+abbrev NotRound : Mark → Type 0
+NotRound sign.RoundCloses = ⊥
 NotRound _ = Unit {0}
 
-call_of_items : (kinds : List TokenKind) (list : Lists) (go : Continues) (least : ℕ) (x : Expression) (q : Place) (s : Suffix) → NotRound s
-    → call_of kinds list go least x q s ≡ and_then (list (next q)) (λ xs r. where_round (suffix (kind_at kinds r)) (go 15 least (tree.Call x xs q.at) (next r)))
-call_of_items kinds list go least x q ClosesRound h = absurd h
+call_of_items : (kinds : List TokenKind) (list : Lists) (go : Continues) (least : ℕ) (x : Expression) (q : Place) (s : Mark) → NotRound s
+    → call_of kinds list go least x q s ≡ and_then (list (next q)) (λ xs r. where_closes (mark_at kinds r) (go 15 least (tree.Call x xs q.at) (next r)))
+call_of_items kinds list go least x q sign.RoundCloses h = absurd h
 call_of_items kinds list go least x q _ h = refl
 
-step_not_round : (step : Step) → NotRound (suffix_of (step_sign step))
+step_not_round : (step : Step) → NotRound (mark_of (step_sign step))
 step_not_round step.Increment = tt
 step_not_round step.Decrement = tt
 
-unary_not_round : (operator : UnaryOperator) → NotRound (suffix_of (unary_sign operator))
+unary_not_round : (operator : UnaryOperator) → NotRound (mark_of (unary_sign operator))
 unary_not_round unary.Address = tt
 unary_not_round unary.Indirection = tt
 unary_not_round unary.Plus = tt
@@ -226,10 +228,10 @@ unary_not_round unary.Minus = tt
 unary_not_round unary.Complement = tt
 unary_not_round unary.Not = tt
 
-not_round_at : (kinds : List TokenKind) (p : Place) (kind : TokenKind) → At kinds p kind → NotRound (suffix_of kind) → NotRound (suffix (kind_at kinds p))
-not_round_at kinds p kind a h = subst (λ i. NotRound (suffix i)) (sym a) h
+not_round_at : (kinds : List TokenKind) (p : Place) (kind : TokenKind) → At kinds p kind → NotRound (mark_of kind) → NotRound (mark_at kinds p)
+not_round_at kinds p kind a h = subst (λ i. NotRound (mark i)) (sym a) h
 
-leads_not_round : (kinds : List TokenKind) (k : ℕ) (p q : Place) (x : Expression) → IsExpression kinds k p q x → NotRound (suffix (kind_at kinds p))
+leads_not_round : (kinds : List TokenKind) (k : ℕ) (p q : Place) (x : Expression) → IsExpression kinds k p q x → NotRound (mark_at kinds p)
 leads_not_round kinds k from to whole (grammar.name p text a o) = not_round_at kinds p _ a tt
 leads_not_round kinds k from to whole (grammar.constant p kind value a) = not_round_at kinds p _ a tt
 leads_not_round kinds k from to whole (grammar.text p a) = not_round_at kinds p _ a tt
@@ -251,17 +253,17 @@ leads_not_round kinds k from to whole (grammar.assign p r s operator y z d a e) 
 leads_not_round kinds k from to whole (grammar.comma p r s y ys d a e) = leads_not_round kinds 1 p r y d
 leads_not_round kinds k from to whole (grammar.pass j p r y d) = leads_not_round kinds (j + 1) p r y d
 
-pub items_not_round : (kinds : List TokenKind) (p q : Place) (xs : List Expression) → AreAssignments kinds p q xs → NotRound (suffix (kind_at kinds p))
+pub items_not_round : (kinds : List TokenKind) (p q : Place) (xs : List Expression) → AreAssignments kinds p q xs → NotRound (mark_at kinds p)
 items_not_round kinds from to whole (grammar.one_assignment p r x d) = leads_not_round kinds 1 p r x d
 items_not_round kinds from to whole (grammar.more_assignments p r s x ys d a e) = leads_not_round kinds 1 p r x d
 
 pub call_goes : (kinds : List TokenKind) (p q r : Place) (x : Expression) (xs : List Expression) → Reaches kinds 15 p q x → At kinds q token.LeftParenthesis
-    → NotRound (suffix (kind_at kinds (next q))) → ReachesItems kinds (next q) r xs → At kinds r token.RightParenthesis
+    → NotRound (mark_at kinds (next q)) → ReachesItems kinds (next q) r xs → At kinds r token.RightParenthesis
     → Reaches kinds 15 p (next r) (tree.Call x xs q.at)
 call_goes kinds p q r x xs ihx a f ihs c n least h l s e =
     let i = ihx n least h l (goes_by_needs kinds least 15 q token.LeftParenthesis Calls a refl (omega arith)) e in
     let t = taken kinds i.0 15 least x q token.LeftParenthesis Calls a refl (omega arith) (omega arith) i.1 in
-    let j = ihs t.0 t.0 (below_at kinds 0 r token.RightParenthesis ClosesRound c refl (omega arith)) t.1 t.1 in
+    let j = ihs t.0 t.0 (below_at kinds 0 r token.RightParenthesis NoSuffix c refl (omega arith)) t.1 t.1 in
     let lp : p.at < q.at = i.2 in
     let lt : q.at + 1 < r.at = j.0 in
     let list = items kinds (read kinds t.0) t.0 in
@@ -270,9 +272,9 @@ call_goes kinds p q r x xs ihx a f ihs c n least h l s e =
       omega (arith, t.1),
       omega arith,
       i.3 ∙ t.2
-          ∙ call_of_items kinds list go least x q (suffix (kind_at kinds (next q))) f
-          ∙ ap (λ o. and_then o (λ ys v. where_round (suffix (kind_at kinds v)) (go 15 least (tree.Call x ys q.at) (next v)))) j.1
-          ∙ ap (λ z. where_round (suffix z) (go 15 least (tree.Call x xs q.at) (next r))) c,
+          ∙ call_of_items kinds list go least x q (mark_at kinds (next q)) f
+          ∙ ap (λ o. and_then o (λ ys v. where_closes (mark_at kinds v) (go 15 least (tree.Call x ys q.at) (next v)))) j.1
+          ∙ ap (λ z. where_closes (mark z) (go 15 least (tree.Call x xs q.at) (next r))) c,
     )
 
 pub member_goes : (kinds : List TokenKind) (p q : Place) (x : Expression) (text : List ℕ) → Reaches kinds 15 p q x → At kinds q token.Dot
@@ -328,7 +330,7 @@ unary_goes kinds p q operator x a ih n least h l s e =
     (b.0, omega (arith, b.1), omega arith, b.2 ∙ ap (λ o. and_then o (λ y v. more kinds b.0 14 least (tree.Unary operator y p.at) v)) i.1)
 
 -- after `sizeof` a bracket that begins no type begins an operand
-sized_plain : (kinds : List TokenKind) (rd : Reader) (types : Types) (go : Continues) (least : ℕ) (p : Place) (s : Prefix) → (s ≡ Opens → begins_type kinds (next (next p)) ≡ false)
+sized_plain : (kinds : List TokenKind) (rd : ReadsExpression) (types : Types) (go : Continues) (least : ℕ) (p : Place) (s : Prefix) → (s ≡ Opens → begins_type kinds (next (next p)) ≡ false)
     → sized kinds rd types go least p s ≡ sized_by kinds rd types go least p false
 sized_plain kinds rd types go least p Opens h = ap (sized_by kinds rd types go least p) (h refl)
 sized_plain kinds rd types go least p _ h = refl
@@ -363,8 +365,8 @@ sizeof_type_goes kinds p q t a d ih c n least h l s e =
       omega arith,
       b.2 ∙ ap (λ z. sized kinds rd (types kinds b.0) go least p (prefix z)) d
           ∙ ap (sized_by kinds rd (types kinds b.0) go least p) ih.0
-          ∙ ap (λ o. and_then o (λ u v. where_round (suffix (kind_at kinds v)) (go 14 least (tree.SizeofType u p.at) (next v)))) i.1
-          ∙ ap (λ z. where_round (suffix z) (go 14 least (tree.SizeofType t p.at) (next q))) c,
+          ∙ ap (λ o. and_then o (λ u v. where_closes (mark_at kinds v) (go 14 least (tree.SizeofType u p.at) (next v)))) i.1
+          ∙ ap (λ z. where_closes (mark z) (go 14 least (tree.SizeofType t p.at) (next q))) c,
     )
 
 pub cast_goes : (kinds : List TokenKind) (p q r : Place) (t : TypeName) (x : Expression) → At kinds p token.LeftParenthesis
@@ -382,10 +384,10 @@ cast_goes kinds p q r t x a ih c ihx n least h l s e =
       omega arith,
       b.2
           ∙ ap (bracketed kinds rd (types kinds b.0) go least p) ih.0
-          ∙ ap (λ w. if w then and_then (types kinds b.0 (next p)) (λ u v. where_round (suffix (kind_at kinds v)) (and_then (rd 13 (next v)) (λ y z. go 13 least (tree.Cast u y p.at) z))) else Refuses)
+          ∙ ap (λ w. if w then and_then (types kinds b.0 (next p)) (λ u v. where_closes (mark_at kinds v) (and_then (rd 13 (next v)) (λ y z. go 13 least (tree.Cast u y p.at) z))) else Refuses)
           (le-leb least 13 h)
-          ∙ ap (λ o. and_then o (λ u v. where_round (suffix (kind_at kinds v)) (and_then (rd 13 (next v)) (λ y z. go 13 least (tree.Cast u y p.at) z)))) i.1
-          ∙ ap (λ w. where_round (suffix w) (and_then (rd 13 (next q)) (λ y z. go 13 least (tree.Cast t y p.at) z))) c
+          ∙ ap (λ o. and_then o (λ u v. where_closes (mark_at kinds v) (and_then (rd 13 (next v)) (λ y z. go 13 least (tree.Cast u y p.at) z)))) i.1
+          ∙ ap (λ w. where_closes (mark w) (and_then (rd 13 (next q)) (λ y z. go 13 least (tree.Cast t y p.at) z))) c
           ∙ ap (λ o. and_then o (λ y z. go 13 least (tree.Cast t y p.at) z)) j.1,
     )
 
@@ -418,7 +420,7 @@ pub conditional_goes : (kinds : List TokenKind) (p q r v : Place) (x y z : Expre
 conditional_goes kinds p q r v x y z ihx a ihy c ihz n least h l s e =
     let i = ihx n least (omega arith) l (goes_by_needs kinds least 3 q token.Question Asks a refl (omega arith)) e in
     let t = taken kinds i.0 3 least x q token.Question Asks a refl (omega arith) (omega arith) i.1 in
-    let j = exact kinds 0 (next q) r y ihy t.0 (omega arith) (below_at kinds 0 r token.Colon Colons c refl (omega arith)) t.1 in
+    let j = exact kinds 0 (next q) r y ihy t.0 (omega arith) (below_at kinds 0 r token.Colon NoSuffix c refl (omega arith)) t.1 in
     let lp : p.at < q.at = i.2 in
     let lt : q.at + 1 < r.at = j.0 in
     let stop = within_two (below (suffix (kind_at kinds v))) 2 (omega arith) (ends_second (suffix (kind_at kinds v)) least 2 h (omega arith) s) in
@@ -431,7 +433,7 @@ conditional_goes kinds p q r v x y z ihx a ihy c ihz n least h l s e =
       omega arith,
       i.3 ∙ t.2
           ∙ ap (λ o. and_then o (choice_of kinds rd go least x q)) j.1
-          ∙ ap (λ k. where_colon (suffix k) (and_then (rd 2 (next r)) (λ b u. go 2 least (tree.Conditional x y b q.at) u))) c
+          ∙ ap (λ k. where_colon (mark k) (and_then (rd 2 (next r)) (λ b u. go 2 least (tree.Conditional x y b q.at) u))) c
           ∙ ap (λ o. and_then o (λ b u. go 2 least (tree.Conditional x y b q.at) u)) w.1,
     )
 

@@ -19,7 +19,7 @@ use Rattle.c_grammar.specs.declared.kinds.Suffix.TheVariants.{Commas, NoSuffix}
 use Rattle.c_grammar.specs.Kinds.{kind_at, suffix, below}
 use Rattle.c_grammar.specs.Marks as sign
 use Rattle.c_grammar.specs.Marks.{follows_specifiers, Mark, mark, mark_at, extends_declarator}
-use Rattle.c_grammar.specs.Reader.{Outcome, Gives, and_then, Reader}
+use Rattle.c_grammar.specs.ReadExpressions.{Outcome, Gives, and_then, ReadsExpression}
 use Rattle.c_grammar.specs.ReadTypes.{ListOf, separated, listed, Specifies, Titled, Titles}
 use Rattle.c_grammar.specs.Readers.{specifiers, declarator}
 use Rattle.c_grammar.specs.Readers as readers
@@ -46,12 +46,12 @@ initialiser_below kinds q (inl a) = below_at kinds 1 q token.Comma Commas a refl
 initialiser_below kinds q (inr (inl a)) = below_at kinds 1 q token.Semicolon NoSuffix a refl (omega arith)
 initialiser_below kinds q (inr (inr a)) = below_at kinds 1 q token.RightBrace NoSuffix a refl (omega arith)
 
-initialiser_value : (kinds : List TokenKind) (rd : Reader) (parts : ListOf Initialiser) (p : Place) (m : Mark) → is_operand m ≡ true
-    → rule.initialiser_by kinds rd parts p m ≡ and_then (rd 1 p) (λ x q. Gives (initialiser_node.Value x) q)
+initialiser_value : (kinds : List TokenKind) (rd : ReadsExpression) (parts : ListOf Initialiser) (p : Place) (m : Mark) → is_operand m ≡ true
+    → rule.initialiser_by kinds rd parts p m ≡ and_then (rd 1 p) (λ x q. Gives (initialiser_node.Value x p.at) q)
 initialiser_value kinds rd parts p sign.CurlyOpens h = cc
 initialiser_value kinds rd parts p _ h = refl
 
-value_goes : (kinds : List TokenKind) (p q : Place) (x : Expression) → is_operand (mark_at kinds p) ≡ true → Reaches kinds 1 p q x → ReachesInitialiser kinds p q (initialiser_node.Value x)
+value_goes : (kinds : List TokenKind) (p q : Place) (x : Expression) → is_operand (mark_at kinds p) ≡ true → Reaches kinds 1 p q x → ReachesInitialiser kinds p q (initialiser_node.Value x p.at)
 value_goes kinds p q x l ih zero ends e = absurd (omega arith)
 value_goes kinds p q x l ih (suc n) ends e =
     let i = exact kinds 1 p q x ih (suc n) (omega arith) (initialiser_below kinds q ends) e in

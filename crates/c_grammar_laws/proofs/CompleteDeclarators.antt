@@ -13,11 +13,11 @@ use Rattle.c_tree.specs.declared.scope.Entry.{Entry}
 use Rattle.c_tree.specs.Places.{Place, At, next, declare, enter, leave, first_of}
 use Rattle.c_tree.specs.Spells as grammar
 use Rattle.c_tree.specs.Spells.{AreAttributes, IsUnnamed, AreArrays, nearest, Unnamed, InParameter, InTypeName, may_all_qualify}
-use Rattle.c_grammar.specs.declared.kinds.Suffix.TheVariants.{ClosesSquare}
+use Rattle.c_grammar.specs.declared.kinds.Suffix.TheVariants.{NoSuffix}
 use Rattle.c_grammar.specs.Kinds.{begins_type}
 use Rattle.c_grammar.specs.Marks as sign
 use Rattle.c_grammar.specs.Marks.{follows_specifiers, Mark, mark, mark_at, extends_declarator}
-use Rattle.c_grammar.specs.Reader.{Outcome, Gives, Refuses, and_then, Reader}
+use Rattle.c_grammar.specs.ReadExpressions.{Outcome, Gives, Refuses, and_then, ReadsExpression}
 use Rattle.c_grammar.specs.ReadTypes as rule
 use Rattle.c_grammar.specs.ReadTypes.{attributes, ListOf, Specified, Specifies, Titled, Titles, Takes, Taken, Perhaps, With, Without, Suffixes, qualifiers}
 use Rattle.c_grammar.specs.Readers.{read, specifiers, perhaps, declarator}
@@ -43,7 +43,7 @@ abbrev pub ReachesDirect : List TokenKind → Place → Place → Titled → Typ
 ReachesDirect kinds p q d = (n : ℕ) → Enough kinds (suc n) p
     → (c : ℕ) × Enough kinds c q × (p.at < q.at) × (perhaps kinds (suc n) p ≡ and_then (suffixes_at kinds n c d q) rule.titled)
 
-abbrev pub ReachesParameters : List TokenKind → Place → Place → List Parameter → Bool → Type 0
+abbrev pub ReachesParameters : List TokenKind → Place → Place → List Parameter → Option ℕ → Type 0
 ReachesParameters kinds p q list variadic = (n c : ℕ) → At kinds q token.RightParenthesis → Enough kinds n p → Enough kinds c p
     → (p.at < q.at) × (rule.parameters kinds (parameter_at kinds n) c p ≡ Gives (Taken list variadic) q)
 
@@ -81,7 +81,7 @@ brackets_goes kinds p q d a ih c n e =
     let lt : p.at + 1 < q.at = i.0 in
     (n, omega (arith, lt, w), omega (arith, lt), perhaps_at kinds n p token.LeftParenthesis a ∙ then_on (declarator kinds n (next p)) d q _ i.1 ∙ closes_on kinds q _ c)
 
-array_sized : (kinds : List TokenKind) (rd : Reader) (go : Suffixes) (name : List ℕ) (parameters : Option (List Entry)) (inner : Declarator) (q : Place) (m : Mark) → is_operand m ≡ true
+array_sized : (kinds : List TokenKind) (rd : ReadsExpression) (go : Suffixes) (name : List ℕ) (parameters : Option (List Entry)) (inner : Declarator) (q : Place) (m : Mark) → is_operand m ≡ true
     → rule.array_by kinds rd go (Titles name parameters inner) q m
     ≡ and_then (rd 2 (next q)) (λ size r. rule.where_square_closes (mark_at kinds r) (go (Titles name parameters (declarator_node.Array inner size q.at)) (next r)))
 array_sized kinds rd go name parameters inner q sign.SquareCloses h = cc
@@ -110,7 +110,7 @@ array_suffixed : (kinds : List TokenKind) (p q r : Place) (name : List ℕ) (par
 array_suffixed kinds p q r name parameters inner size a l jh b n zero e lt f = absurd (omega arith)
 array_suffixed kinds p q r name parameters inner size a l jh b n (suc c) e lt f =
     let w = inside kinds q token.LeftBracket a in
-    let j = exact kinds 2 (next q) r size jh n (omega arith) (below_at kinds 2 r token.RightBracket ClosesSquare b refl (omega arith)) (omega (arith, lt, w)) in
+    let j = exact kinds 2 (next q) r size jh n (omega arith) (below_at kinds 2 r token.RightBracket NoSuffix b refl (omega arith)) (omega (arith, lt, w)) in
     let lr : q.at + 1 < r.at = j.0 in (
       c,
       omega (arith, lr, w),
@@ -146,7 +146,7 @@ open_array_goes kinds p q name parameters inner ih a b =
 
 function_empty_suffixed : (kinds : List TokenKind) (p q : Place) (name : List ℕ) (parameters : Option (List Entry)) (inner : Declarator) → At kinds q token.LeftParenthesis
     → At kinds (next q) token.RightParenthesis
-    → Suffixed kinds p q (Titles name parameters inner) (next (next q)) (Titles name (nearest parameters []) (declarator_node.Function inner [] false q.at))
+    → Suffixed kinds p q (Titles name parameters inner) (next (next q)) (Titles name (nearest parameters []) (declarator_node.Function inner [] None q.at))
 function_empty_suffixed kinds p q name parameters inner a b n zero e lt f = absurd (omega arith)
 function_empty_suffixed kinds p q name parameters inner a b n (suc c) e lt f =
     let w = inside kinds q token.LeftParenthesis a in (
@@ -159,9 +159,9 @@ function_empty_suffixed kinds p q name parameters inner a b n (suc c) e lt f =
 
 pub function_empty_goes : (kinds : List TokenKind) (p q : Place) (name : List ℕ) (parameters : Option (List Entry)) (inner : Declarator) → ReachesDirect kinds p q (Titles name parameters inner)
     → At kinds q token.LeftParenthesis → At kinds (next q) token.RightParenthesis
-    → ReachesDirect kinds p (next (next q)) (Titles name (nearest parameters []) (declarator_node.Function inner [] false q.at))
+    → ReachesDirect kinds p (next (next q)) (Titles name (nearest parameters []) (declarator_node.Function inner [] None q.at))
 function_empty_goes kinds p q name parameters inner ih a b =
-    suffix_goes kinds p q (next (next q)) (Titles name parameters inner) (Titles name (nearest parameters []) (declarator_node.Function inner [] false q.at)) ih
+    suffix_goes kinds p q (next (next q)) (Titles name parameters inner) (Titles name (nearest parameters []) (declarator_node.Function inner [] None q.at)) ih
     (function_empty_suffixed kinds p q name parameters inner a b)
 
 function_listed : (kinds : List TokenKind) (list : Place → Outcome Takes) (go : Suffixes) (name : List ℕ) (parameters : Option (List Entry)) (inner : Declarator) (q : Place) (m : Mark)
@@ -170,7 +170,7 @@ function_listed : (kinds : List TokenKind) (list : Place → Outcome Takes) (go 
 function_listed kinds list go name parameters inner q sign.RoundCloses h = cc
 function_listed kinds list go name parameters inner q _ h = refl
 
-function_suffixed : (kinds : List TokenKind) (p q r : Place) (name : List ℕ) (parameters : Option (List Entry)) (inner : Declarator) (list : List Parameter) (variadic : Bool)
+function_suffixed : (kinds : List TokenKind) (p q r : Place) (name : List ℕ) (parameters : Option (List Entry)) (inner : Declarator) (list : List Parameter) (variadic : Option ℕ)
     → At kinds q token.LeftParenthesis → begins_specifiers (mark_at kinds (next q)) ≡ true → ReachesParameters kinds (enter (next q)) r list variadic → At kinds r token.RightParenthesis
     → Suffixed kinds p q (Titles name parameters inner) (leave (next r)) (Titles name (nearest parameters (first_of r.blocks)) (declarator_node.Function inner list variadic q.at))
 function_suffixed kinds p q r name parameters inner list variadic a l jh b n zero e lt f = absurd (omega arith)
@@ -187,7 +187,7 @@ function_suffixed kinds p q r name parameters inner list variadic a l jh b n (su
           ∙ then_on (all (enter (next q))) (Taken list variadic) r _ j.1 ∙ closes_on kinds r _ b,
     )
 
-pub function_goes : (kinds : List TokenKind) (p q r : Place) (name : List ℕ) (parameters : Option (List Entry)) (inner : Declarator) (list : List Parameter) (variadic : Bool)
+pub function_goes : (kinds : List TokenKind) (p q r : Place) (name : List ℕ) (parameters : Option (List Entry)) (inner : Declarator) (list : List Parameter) (variadic : Option ℕ)
     → ReachesDirect kinds p q (Titles name parameters inner) → At kinds q token.LeftParenthesis → begins_specifiers (mark_at kinds (next q)) ≡ true
     → ReachesParameters kinds (enter (next q)) r list variadic → At kinds r token.RightParenthesis
     → ReachesDirect kinds p (leave (next r)) (Titles name (nearest parameters (first_of r.blocks)) (declarator_node.Function inner list variadic q.at))
@@ -197,7 +197,7 @@ function_goes kinds p q r name parameters inner list variadic ih a l jh b =
 
 -- ---- declarators
 
-suffixes_stop : (kinds : List TokenKind) (rd : Reader) (list : Place → Outcome Takes) (go : Suffixes) (d : Titled) (q : Place) (m : Mark) → is_suffix m ≡ false
+suffixes_stop : (kinds : List TokenKind) (rd : ReadsExpression) (list : Place → Outcome Takes) (go : Suffixes) (d : Titled) (q : Place) (m : Mark) → is_suffix m ≡ false
     → rule.suffixes_by kinds rd list go d q m ≡ Gives d q
 suffixes_stop kinds rd list go d q sign.RoundOpens h = cc
 suffixes_stop kinds rd list go d q sign.SquareOpens h = cc
@@ -377,7 +377,7 @@ unnamed_parameter_goes kinds p q r defines list inner ih d jh n ends e =
     let lr : q.at ≤ r.at = j.0 in
     (omega (arith, lt, lr), then_on (specifiers kinds n p) (Specifies defines list) q _ i.1 ∙ then_on (perhaps kinds n q) (Without inner) r _ j.1)
 
-pub one_parameter_goes : (kinds : List TokenKind) (p q : Place) (x : Parameter) → ReachesParameter kinds p q x → ReachesParameters kinds p q (x ∷ []) false
+pub one_parameter_goes : (kinds : List TokenKind) (p q : Place) (x : Parameter) → ReachesParameter kinds p q x → ReachesParameters kinds p q (x ∷ []) None
 one_parameter_goes kinds p q x ih n zero a e f = absurd (omega arith)
 one_parameter_goes kinds p q x ih n (suc c) a e f =
     let i = ih n (inr a) e in
@@ -385,7 +385,7 @@ one_parameter_goes kinds p q x ih n (suc c) a e f =
     (i.0, parameters_on kinds (parameter_at kinds n) c p ∙ then_on (parameter_at kinds n p) x q _ i.1 ∙ ap (λ k. rule.parameters_after kinds more x q (mark k)) a)
 
 pub variadic_goes : (kinds : List TokenKind) (p q : Place) (x : Parameter) → ReachesParameter kinds p q x → At kinds q token.Comma → At kinds (next q) token.Ellipsis
-    → ReachesParameters kinds p (next (next q)) (x ∷ []) true
+    → ReachesParameters kinds p (next (next q)) (x ∷ []) (Some (next q).at)
 variadic_goes kinds p q x ih b d n zero a e f = absurd (omega arith)
 variadic_goes kinds p q x ih b d n (suc c) a e f =
     let i = ih n (inl b) e in
@@ -400,7 +400,7 @@ parameters_other : (more : Place → Outcome Takes) (x : Parameter) (q : Place) 
 parameters_other more x q sign.Ellipsis h = cc
 parameters_other more x q _ h = refl
 
-pub more_parameters_goes : (kinds : List TokenKind) (p q r : Place) (x : Parameter) (list : List Parameter) (variadic : Bool) → ReachesParameter kinds p q x → At kinds q token.Comma
+pub more_parameters_goes : (kinds : List TokenKind) (p q r : Place) (x : Parameter) (list : List Parameter) (variadic : Option ℕ) → ReachesParameter kinds p q x → At kinds q token.Comma
     → begins_specifiers (mark_at kinds (next q)) ≡ true → ReachesParameters kinds (next q) r list variadic → ReachesParameters kinds p r (x ∷ list) variadic
 more_parameters_goes kinds p q r x list variadic ih b l jh n zero a e f = absurd (omega arith)
 more_parameters_goes kinds p q r x list variadic ih b l jh n (suc c) a e f =
@@ -426,7 +426,7 @@ array_step : (kinds : List TokenKind) (n c : ℕ) (q r : Place) (inner : Declara
 array_step kinds n zero q r inner size a jh b e f = absurd (omega arith)
 array_step kinds n (suc c) q r inner size a jh b e f =
     let w = inside kinds q token.LeftBracket a in
-    let j = exact kinds 2 (next q) r size jh n (omega arith) (below_at kinds 2 r token.RightBracket ClosesSquare b refl (omega arith)) (omega arith) in
+    let j = exact kinds 2 (next q) r size jh n (omega arith) (below_at kinds 2 r token.RightBracket NoSuffix b refl (omega arith)) (omega arith) in
     let lr : q.at + 1 < r.at = j.0 in (
       c,
       omega (arith, lr, w),
@@ -444,7 +444,7 @@ unnamed_array_goes kinds p q r inner size ih a jh b n c e f =
     let lr : q.at ≤ r.at = j.2 in
     (j.0, j.1, omega (arith, le, lr), i.3 ∙ j.3)
 
-arrays_end : (kinds : List TokenKind) (rd : Reader) (c : ℕ) (inner : Declarator) (q : Place) → At kinds q token.RightParenthesis → Enough kinds c q → rule.arrays kinds rd c inner q ≡ Gives inner q
+arrays_end : (kinds : List TokenKind) (rd : ReadsExpression) (c : ℕ) (inner : Declarator) (q : Place) → At kinds q token.RightParenthesis → Enough kinds c q → rule.arrays kinds rd c inner q ≡ Gives inner q
 arrays_end kinds rd zero inner q a e = absurd (omega arith)
 arrays_end kinds rd (suc c) inner q a e = arrays_on kinds rd c inner q ∙ ap (λ k. rule.arrays_by kinds rd (rule.arrays kinds rd c) inner q (mark k)) a
 
@@ -460,7 +460,7 @@ arrays_begin : (kinds : List TokenKind) (p q : Place) (inner : Declarator) → A
 arrays_begin kinds from to whole (grammar.no_arrays p) = inl refl
 arrays_begin kinds from to whole (grammar.unnamed_array p q r x size d a e b) = arrays_begin_by kinds p q r a (arrays_begin kinds p q x d)
 
-arrays_first : (kinds : List TokenKind) (rd : Reader) (c : ℕ) (p q : Place) → At kinds q token.RightParenthesis → BeginsArrays kinds p q
+arrays_first : (kinds : List TokenKind) (rd : ReadsExpression) (c : ℕ) (p q : Place) → At kinds q token.RightParenthesis → BeginsArrays kinds p q
     → rule.unnamed_by (rule.arrays kinds rd (suc c)) (qualifiers kinds c) (rule.unnamed kinds rd c) p (mark_at kinds p) ≡ rule.arrays kinds rd (suc c) (declarator_node.Unnamed p.at) p
 arrays_first kinds rd c p q a (inl e) =
     let b : At kinds p token.RightParenthesis = subst (λ z. At kinds z token.RightParenthesis) (sym e) a in

@@ -15,7 +15,7 @@ use Rattle.c_tree.specs.Signs.{level}
 use Rattle.c_tree.specs.Spells as grammar
 use Rattle.c_tree.specs.Spells.{IsExpression, AreAssignments, IsTypeName, AreSpecifiers, AreFurther, IsSpecifier, AreMemberLines, AreMembers, IsMember, AreEnumConstants, IsEnumConstant, IsDecorated, IsDeclarator, IsDirect, AreParameters, IsParameter, IsUnnamed, AreArrays, Role, Unnamed, InParameter, InTypeName, types_now}
 use Rattle.c_grammar.specs.Kinds.{kind_at, suffix, below}
-use Rattle.c_grammar.specs.Reader.{Gives}
+use Rattle.c_grammar.specs.ReadExpressions.{Gives}
 use Rattle.c_grammar.specs.ReadTypes.{Titles}
 use Rattle.c_grammar_laws.proofs.Complete as expression
 use Rattle.c_grammar_laws.proofs.Complete.{Enough, Reaches, ReachesItems, ReachesType, exact}
@@ -149,12 +149,12 @@ mutual
       declarator.function_goes kinds p q r n ps inner list variadic (complete_direct kinds p q n ps inner d) a (parameters_lead kinds (enter (next q)) r list variadic e)
       (complete_parameters kinds (enter (next q)) r list variadic e) b
 
-  complete_parameters : (kinds : List TokenKind) (p q : Place) (list : List Parameter) (variadic : Bool) → AreParameters kinds p q list variadic → ReachesParameters kinds p q list variadic
+  complete_parameters : (kinds : List TokenKind) (p q : Place) (list : List Parameter) (variadic : Option ℕ) → AreParameters kinds p q list variadic → ReachesParameters kinds p q list variadic
   complete_parameters kinds from to whole variadic (grammar.one_parameter p q x d) = declarator.one_parameter_goes kinds p q x (complete_parameter kinds p q x d)
   complete_parameters kinds from to whole variadic (grammar.variadic_parameters p q x d a b) = declarator.variadic_goes kinds p q x (complete_parameter kinds p q x d) a b
-  complete_parameters kinds from to whole variadic (grammar.more_parameters p q r x list is_variadic d a e) =
-      declarator.more_parameters_goes kinds p q r x list is_variadic (complete_parameter kinds p q x d) a (parameters_lead kinds (next q) r list is_variadic e)
-      (complete_parameters kinds (next q) r list is_variadic e)
+  complete_parameters kinds from to whole variadic (grammar.more_parameters p q r x list dots d a e) =
+      declarator.more_parameters_goes kinds p q r x list dots (complete_parameter kinds p q x d) a (parameters_lead kinds (next q) r list dots e)
+      (complete_parameters kinds (next q) r list dots e)
 
   complete_parameter : (kinds : List TokenKind) (p q : Place) (x : Parameter) → IsParameter kinds p q x → ReachesParameter kinds p q x
   complete_parameter kinds from to whole (grammar.named_parameter p q r defines list name parameters inner d e) =

@@ -26,7 +26,7 @@ use Rattle.c_grammar.specs.declared.kinds.Suffix.TheVariants.{Commas, NoSuffix}
 use Rattle.c_grammar.specs.Kinds.{kind_at, suffix, below}
 use Rattle.c_grammar.specs.Marks as sign
 use Rattle.c_grammar.specs.Marks.{follows_specifiers, Mark, mark, mark_at, extends_declarator}
-use Rattle.c_grammar.specs.Reader.{Outcome, Gives, Refuses, and_then, Reader}
+use Rattle.c_grammar.specs.ReadExpressions.{Outcome, Gives, Refuses, and_then, ReadsExpression}
 use Rattle.c_grammar.specs.ReadTypes as rule
 use Rattle.c_grammar.specs.ReadTypes.{attributes, ListOf, separated, listed, Specific, Plays, Specified, Specifies, Titled, Titles, ReadsSpecifiers, ReadsDeclarator}
 use Rattle.c_grammar.specs.Readers.{read, specifiers, perhaps, declarator, struct_with, enum_with}
@@ -88,7 +88,7 @@ ReachesConstant kinds p q x = (n : ℕ) → EndsConstant kinds q → Enough kind
 
 -- ---- members
 
-member_other : (kinds : List TokenKind) (rd : Reader) (dc : ReadsDeclarator) (p : Place) (m : Mark) → begins_declarator m ≡ true
+member_other : (kinds : List TokenKind) (rd : ReadsExpression) (dc : ReadsDeclarator) (p : Place) (m : Mark) → begins_declarator m ≡ true
     → rule.member_by kinds rd dc p m ≡ and_then (dc p) (λ d q. rule.member_after rd d q (mark_at kinds q))
 member_other kinds rd dc p sign.Colon h = cc
 member_other kinds rd dc p _ h = refl

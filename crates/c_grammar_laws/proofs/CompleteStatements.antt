@@ -14,11 +14,11 @@ use Rattle.c_tree.specs.Places.{Place, At, next, enter, leave}
 use Rattle.c_tree.specs.Spells.{IsExpression}
 use Rattle.c_tree.specs.SpellsStatements as grammar
 use Rattle.c_tree.specs.SpellsStatements.{IsDeclaration, IsOptional, IsForStart, IsTest, IsStatement, IsLabelled, IsChain, AreItems}
-use Rattle.c_grammar.specs.declared.kinds.Suffix.TheVariants.{ClosesRound, Colons, NoSuffix}
+use Rattle.c_grammar.specs.declared.kinds.Suffix.TheVariants.{NoSuffix}
 use Rattle.c_grammar.specs.Kinds.{kind_at, suffix, below, begins_type}
 use Rattle.c_grammar.specs.Marks as sign
 use Rattle.c_grammar.specs.Marks.{Mark, NoMark, mark, mark_at}
-use Rattle.c_grammar.specs.Reader.{Outcome, Gives, and_then, Reader}
+use Rattle.c_grammar.specs.ReadExpressions.{Outcome, Gives, and_then, ReadsExpression}
 use Rattle.c_grammar.specs.ReadTypes.{ListOf}
 use Rattle.c_grammar.specs.Readers.{read}
 use Rattle.c_grammar.specs.ReadStatements as rule
@@ -47,11 +47,11 @@ whole kinds k n p q x d le stop e = exact kinds k p q x (complete kinds k p q x 
 
 test_goes : (kinds : List TokenKind) (n : ℕ) (p q : Place) (x : Expression) → IsTest kinds p q x → Enough kinds n p → (p.at < q.at) × (rule.test kinds (read kinds n) p ≡ Gives x q)
 test_goes kinds n from to all (grammar.bracketed_test p q x a d b) e =
-    let i = whole kinds 0 n (next p) q x d (omega arith) (below_at kinds 0 q token.RightParenthesis ClosesRound b refl (omega arith)) (omega arith) in
+    let i = whole kinds 0 n (next p) q x d (omega arith) (below_at kinds 0 q token.RightParenthesis NoSuffix b refl (omega arith)) (omega arith) in
     let lt : p.at + 1 < q.at = i.0 in
     (omega (arith, lt), opens_on kinds p _ a ∙ then_on (read kinds n 0 (next p)) x q _ i.1 ∙ closes_on kinds q _ b)
 
-optional_value : (rd : Reader) (p : Place) (m : Mark) → is_operand m ≡ true → rule.optional_by rd p m ≡ and_then (rd 0 p) rule.some
+optional_value : (rd : ReadsExpression) (p : Place) (m : Mark) → is_operand m ≡ true → rule.optional_by rd p m ≡ and_then (rd 0 p) rule.some
 optional_value rd p sign.Semicolon h = cc
 optional_value rd p _ h = refl
 
@@ -63,7 +63,7 @@ optional_goes kinds n from to all (grammar.some_value p q x d) a e =
     let lt : p.at < q.at = i.0 in
     (omega (arith, lt), optional_value (read kinds n) p (mark_at kinds p) (expression_leads kinds 0 p q x d) ∙ then_on (read kinds n 0 p) x q _ i.1)
 
-optional_step_value : (rd : Reader) (p : Place) (m : Mark) → is_operand m ≡ true → rule.optional_step_by rd p m ≡ and_then (rd 0 p) rule.some
+optional_step_value : (rd : ReadsExpression) (p : Place) (m : Mark) → is_operand m ≡ true → rule.optional_step_by rd p m ≡ and_then (rd 0 p) rule.some
 optional_step_value rd p sign.RoundCloses h = cc
 optional_step_value rd p _ h = refl
 
@@ -71,15 +71,15 @@ optional_step_goes : (kinds : List TokenKind) (n : ℕ) (p q : Place) (x : Optio
     → (p.at ≤ q.at) × (rule.optional_step_by (read kinds n) p (mark_at kinds p) ≡ Gives x q)
 optional_step_goes kinds n from to all (grammar.no_value p) a e = (omega arith, ap (λ k. rule.optional_step_by (read kinds n) p (mark k)) a)
 optional_step_goes kinds n from to all (grammar.some_value p q x d) a e =
-    let i = whole kinds 0 n p q x d (omega arith) (below_at kinds 0 q token.RightParenthesis ClosesRound a refl (omega arith)) e in
+    let i = whole kinds 0 n p q x d (omega arith) (below_at kinds 0 q token.RightParenthesis NoSuffix a refl (omega arith)) e in
     let lt : p.at < q.at = i.0 in
     (omega (arith, lt), optional_step_value (read kinds n) p (mark_at kinds p) (expression_leads kinds 0 p q x d) ∙ then_on (read kinds n 0 p) x q _ i.1)
 
-start_other : (kinds : List TokenKind) (rd : Reader) (dn : ReadsDeclaration) (p : Place) (m : Mark) → is_operand m ≡ true → rule.start_by kinds rd dn p m ≡ rule.start_else kinds rd dn p (begins_type kinds p)
+start_other : (kinds : List TokenKind) (rd : ReadsExpression) (dn : ReadsDeclaration) (p : Place) (m : Mark) → is_operand m ≡ true → rule.start_by kinds rd dn p m ≡ rule.start_else kinds rd dn p (begins_type kinds p)
 start_other kinds rd dn p sign.Semicolon h = cc
 start_other kinds rd dn p _ h = refl
 
-start_declares : (kinds : List TokenKind) (rd : Reader) (dn : ReadsDeclaration) (p : Place) (m : Mark) → begins_specifiers m ≡ true
+start_declares : (kinds : List TokenKind) (rd : ReadsExpression) (dn : ReadsDeclaration) (p : Place) (m : Mark) → begins_specifiers m ≡ true
     → rule.start_by kinds rd dn p m ≡ rule.start_else kinds rd dn p (begins_type kinds p)
 start_declares kinds rd dn p sign.Semicolon h = cc
 start_declares kinds rd dn p _ h = refl
@@ -140,7 +140,7 @@ empty_goes : (kinds : List TokenKind) (p : Place) → At kinds p token.Semicolon
 empty_goes kinds p a zero s e = absurd (omega arith)
 empty_goes kinds p a (suc n) s e = (omega arith, statement_at kinds n p token.Semicolon a)
 
-name_value : (kinds : List TokenKind) (rd : Reader) (st : ReadsStatement) (p : Place) (text : List ℕ) (m : Mark) → is_colon m ≡ false
+name_value : (kinds : List TokenKind) (rd : ReadsExpression) (st : ReadsStatement) (p : Place) (text : List ℕ) (m : Mark) → is_colon m ≡ false
     → rule.name_statement kinds rd st p text m ≡ rule.value_statement kinds rd p
 name_value kinds rd st p text sign.Colon h = cc
 name_value kinds rd st p text _ h = refl
@@ -217,7 +217,7 @@ case_goes : (kinds : List TokenKind) (p q r : Place) (ends_open : Bool) (x : Exp
 case_goes kinds p q r ends_open x body a d b ih zero s e = absurd (omega arith)
 case_goes kinds p q r ends_open x body a d b ih (suc n) s e =
     let w = inside kinds p token.Case a in
-    let j = whole kinds 2 (suc n) (next p) q x d (omega arith) (below_at kinds 2 q token.Colon Colons b refl (omega arith)) (omega arith) in
+    let j = whole kinds 2 (suc n) (next p) q x d (omega arith) (below_at kinds 2 q token.Colon NoSuffix b refl (omega arith)) (omega arith) in
     let lt : p.at + 1 < q.at = j.0 in
     let i = ih n s (omega (arith, lt, w)) in
     let le : q.at + 1 ≤ r.at = i.0 in (

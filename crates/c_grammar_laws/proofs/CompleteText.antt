@@ -18,7 +18,7 @@ use Rattle.c_tree.specs.SpellsText.{IsExternal, AreExternals, parameters_of}
 use Rattle.c_grammar.specs.Kinds.{kind_at}
 use Rattle.c_grammar.specs.Marks as sign
 use Rattle.c_grammar.specs.Marks.{follows_specifiers, Mark, mark, mark_at, extends_declarator}
-use Rattle.c_grammar.specs.Reader.{Gives, and_then}
+use Rattle.c_grammar.specs.ReadExpressions.{Gives, and_then}
 use Rattle.c_grammar.specs.ReadTypes.{ListOf, separated_after, Specifies, Titled, Titles}
 use Rattle.c_grammar.specs.Readers.{specifiers, declarator}
 use Rattle.c_grammar.specs.ReadStatements.{initialiser, declared_after, declaration_end, names_with, declaration, block, statement}

@@ -12,7 +12,7 @@ use Rattle.c_tree.specs.Spells.{IsBalanced, AreAttributes, AreQualifiers, IsTag,
 use Rattle.c_grammar.specs.Kinds.{kind_at}
 use Rattle.c_grammar.specs.Marks as sign
 use Rattle.c_grammar.specs.Marks.{Bracketing, Opens, Closes, NoBracket, bracketing, bracketing_of, same_bracket, Mark, mark, mark_at, mark_of, extends_declarator}
-use Rattle.c_grammar.specs.Reader.{Outcome, Gives, Refuses, and_then}
+use Rattle.c_grammar.specs.ReadExpressions.{Outcome, Gives, Refuses, and_then}
 use Rattle.c_grammar.specs.ReadTypes as rule
 use Rattle.c_grammar.specs.ReadTypes.{where_opens, where_closes, where_square_closes, where_curly_closes, where_semicolon, balanced, balanced_by, attributes, attributes_by, ListOf, separated, separated_after, listed, listed_after, listed_comma, Specific, Plays, Specified, Specifies, Titled, Titles, qualifiers, qualifiers_by}
 use Rattle.c_grammar_laws.proofs.MarkLaws.{mark-qualifier_sign, bracketing-opening, bracketing-closing, bracketing-none, same_bracket-self}

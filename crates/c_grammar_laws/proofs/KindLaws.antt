@@ -13,7 +13,7 @@ use Rattle.c_tree.specs.declared.expression.AssignOperator.{AssignOperator}
 use Rattle.c_tree.specs.declared.expression.AssignOperator.TheVariants as assign
 use Rattle.c_tree.specs.Signs.{step_sign, unary_sign, binary_sign, assign_sign, level}
 use Rattle.c_grammar.specs.declared.kinds.Suffix.{Suffix}
-use Rattle.c_grammar.specs.declared.kinds.Suffix.TheVariants.{Infix, Assigns, Asks, Commas, Subscripts, Calls, Selects, Points, Steps, ClosesRound, ClosesSquare, Colons, NoSuffix}
+use Rattle.c_grammar.specs.declared.kinds.Suffix.TheVariants.{Infix, Assigns, Asks, Commas, Subscripts, Calls, Selects, Points, Steps, NoSuffix}
 use Rattle.c_grammar.specs.Kinds.{suffix_of, suffix, needs, below, Prefix, Names, Constants, Texts, Opens, StepsFirst, Operates, Sizes, NoPrefix, prefix_of, prefix}
 
 -- ---- after an operand
@@ -28,9 +28,6 @@ suffix_sign Calls = Some token.LeftParenthesis
 suffix_sign Selects = Some token.Dot
 suffix_sign Points = Some token.Arrow
 suffix_sign (Steps step) = Some (step_sign step)
-suffix_sign ClosesRound = Some token.RightParenthesis
-suffix_sign ClosesSquare = Some token.RightBracket
-suffix_sign Colons = Some token.Colon
 suffix_sign NoSuffix = None
 
 suffix_of-sign : (kind : TokenKind) → (suffix_of kind ≡ NoSuffix) ⊎ (Some kind ≡ suffix_sign (suffix_of kind))
@@ -71,9 +68,6 @@ suffix_of-sign token.Dot = inr refl
 suffix_of-sign token.Arrow = inr refl
 suffix_of-sign token.Increment = inr refl
 suffix_of-sign token.Decrement = inr refl
-suffix_of-sign token.RightParenthesis = inr refl
-suffix_of-sign token.RightBracket = inr refl
-suffix_of-sign token.Colon = inr refl
 suffix_of-sign _ = inl refl
 
 abbrev SuffixSign : Option TokenKind → Type 0
@@ -234,9 +228,6 @@ below_needs Calls = omega arith
 below_needs Selects = omega arith
 below_needs Points = omega arith
 below_needs (Steps step) = omega arith
-below_needs ClosesRound = omega arith
-below_needs ClosesSquare = omega arith
-below_needs Colons = omega arith
 below_needs NoSuffix = omega arith
 
 -- what may follow an operand of a unary operator ends it
@@ -255,9 +246,6 @@ ends_unary Points (inl h) = omega arith
 ends_unary Points (inr h) = omega arith
 ends_unary (Steps step) (inl h) = omega arith
 ends_unary (Steps step) (inr h) = omega arith
-ends_unary ClosesRound h = omega arith
-ends_unary ClosesSquare h = omega arith
-ends_unary Colons h = omega arith
 ends_unary NoSuffix h = omega arith
 
 -- what may follow a conditional expression ends it
@@ -271,9 +259,6 @@ ends_conditional Calls h = omega arith
 ends_conditional Selects h = omega arith
 ends_conditional Points h = omega arith
 ends_conditional (Steps step) h = omega arith
-ends_conditional ClosesRound h = omega arith
-ends_conditional ClosesSquare h = omega arith
-ends_conditional Colons h = omega arith
 ends_conditional NoSuffix h = omega arith
 
 -- nothing goes on after an expression with commas
@@ -287,7 +272,4 @@ ends_whole Calls h = omega arith
 ends_whole Selects h = omega arith
 ends_whole Points h = omega arith
 ends_whole (Steps step) h = omega arith
-ends_whole ClosesRound h = omega arith
-ends_whole ClosesSquare h = omega arith
-ends_whole Colons h = omega arith
 ends_whole NoSuffix h = omega arith

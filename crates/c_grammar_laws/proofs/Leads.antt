@@ -187,10 +187,10 @@ pub parameter_leads : (kinds : List TokenKind) (p q : Place) (x : Parameter) →
 parameter_leads kinds from to whole (grammar.named_parameter p q r defines list name parameters inner d e) = specifiers_lead kinds p q defines list d
 parameter_leads kinds from to whole (grammar.unnamed_parameter p q r defines list inner d e) = specifiers_lead kinds p q defines list d
 
-pub parameters_lead : (kinds : List TokenKind) (p q : Place) (list : List Parameter) (variadic : Bool) → AreParameters kinds p q list variadic → begins_specifiers (mark_at kinds p) ≡ true
+pub parameters_lead : (kinds : List TokenKind) (p q : Place) (list : List Parameter) (variadic : Option ℕ) → AreParameters kinds p q list variadic → begins_specifiers (mark_at kinds p) ≡ true
 parameters_lead kinds from to list variadic (grammar.one_parameter p q x d) = parameter_leads kinds p q x d
 parameters_lead kinds from to list variadic (grammar.variadic_parameters p q x d a b) = parameter_leads kinds p q x d
-parameters_lead kinds from to list variadic (grammar.more_parameters p q r x further is_variadic d a e) = parameter_leads kinds p q x d
+parameters_lead kinds from to list variadic (grammar.more_parameters p q r x further dots d a e) = parameter_leads kinds p q x d
 
 -- ---- where specifiers begin, and where they end
 

@@ -9,7 +9,12 @@ pub mod CompleteTypes
 pub mod KindLaws
 pub mod Leads
 pub mod MarkLaws
+pub mod Marked
 pub mod OneTree
+pub mod OwnExpressions
+pub mod OwnLaws
+pub mod OwnStatements
+pub mod Rising
 pub mod Sound
 pub mod SoundDeclarators
 pub mod SoundReaders

@@ -12,11 +12,11 @@ use Rattle.c_tree.specs.declared.declaration.External.{External}
 use Rattle.c_tree.specs.declared.declaration.Tree.{Tree}
 use Rattle.c_tree.specs.declared.scope.Entry.{Entry}
 use Rattle.c_tree.specs.Places.{Place, At}
-use Rattle.c_tree.specs.SpellsText.{Spells, kinds_of, beginning}
+use Rattle.c_tree.specs.SpellsText.{Spells, kinds_of, lines_of, beginning}
 use Rattle.c_grammar.specs.Kinds.{kind_at}
 use Rattle.c_grammar.specs.Marks as sign
 use Rattle.c_grammar.specs.Marks.{mark_at}
-use Rattle.c_grammar.specs.Reader.{Outcome, Gives, Refuses}
+use Rattle.c_grammar.specs.ReadExpressions.{Outcome, Gives, Refuses}
 use Rattle.c_grammar.specs.ReadTypes.{Specifies, Titles}
 use Rattle.c_grammar.specs.ReadText.{text}
 use Rattle.c_grammar_laws.specs.Laws.{OneExpression, OneTypeName, OneListOfSpecifiers, OneInitialiser, OneDeclarator, OneDeclaration, OneStatement, OneExternal, OneTree, IsRead, ReadsWhatIsSpelled, RefusesTheRest}
@@ -118,20 +118,23 @@ past kinds n h = let c = slice_get_cases kinds n in past_by kinds n h c.1
 read_spelled : (tokens : List Token) (tree : Tree) → IsRead tokens tree → Spells tokens tree
 read_spelled tokens tree t =
     let kinds = kinds_of tokens in
-    let w = externals_sound kinds (length kinds + 1) (length kinds + 1) beginning tree.externals t.0 t.1 in
-    let ge = past kinds t.0.at w.1 in
-    let le = externals_within kinds beginning t.0 tree.externals w.0 (omega arith) in
+    let q : Place = t.0.0 in
+    let w = externals_sound kinds (length kinds + 1) (length kinds + 1) beginning tree.externals q t.0.1 in
+    let ge = past kinds q.at w.1 in
+    let le = externals_within kinds beginning q tree.externals w.0 (omega arith) in
     let same_length = length-map tokens (λ t. t.kind) in
-    record { end = t.0; all = omega (arith, ge, le, same_length); spelled = w.0 }
+    record { end = q; all = omega (arith, ge, le, same_length); spelled = w.0; lines_are = t.1 }
 
 pub reads_what_is_spelled : ReadsWhatIsSpelled
-reads_what_is_spelled tokens tree = (λ s. (s.end, spelled_read tokens tree s), λ t. read_spelled tokens tree t)
+reads_what_is_spelled tokens tree = (λ s. ((s.end, spelled_read tokens tree s), s.lines_are), λ t. read_spelled tokens tree t)
 
 refused : (tokens : List Token) → text (kinds_of tokens) ≡ Refuses → (tree : Tree) → Spells tokens tree → ⊥
 refused tokens e tree s = let f = spelled_read tokens tree s in let z = sym e ∙ f in cc
 
 refuses_by : (tokens : List Token) → ((tree : Tree) → Spells tokens tree → ⊥) → (o : Outcome (List External)) → text (kinds_of tokens) ≡ o → o ≡ Refuses
-refuses_by tokens h (Gives xs q) e = absurd (h (record { externals = xs }) (read_spelled tokens (record { externals = xs }) (q, e)))
+refuses_by tokens h (Gives xs q) e =
+    let tree : Tree = record { externals = xs; lines = lines_of tokens } in
+    absurd (h tree (read_spelled tokens tree ((q, e), refl)))
 refuses_by tokens h Refuses e = refl
 
 pub refuses_the_rest : RefusesTheRest
@@ -141,4 +144,6 @@ pub one_tree : OneTree
 one_tree tokens x y s t =
     let e = same (text (kinds_of tokens)) x.externals y.externals s.end t.end (spelled_read tokens x s) (spelled_read tokens y t) in
     let f : x.externals ≡ y.externals = e.0 in
-    ap (λ z. let made : Tree = record { externals = z } in made) f
+    let g : x.lines ≡ y.lines = s.lines_are ∙ sym t.lines_are in
+    ap (λ z. let made : Tree = record { externals = z; lines = x.lines } in made) f
+    ∙ ap (λ z. let made : Tree = record { externals = y.externals; lines = z } in made) g

@@ -10,12 +10,15 @@ use Rattle.c_tree.specs.Signs.{level}
 use Rattle.c_tree.specs.Spells as grammar
 use Rattle.c_tree.specs.Spells.{IsExpression, AreAssignments, IsTypeName}
 use Rattle.c_grammar.specs.declared.kinds.Suffix.{Suffix}
-use Rattle.c_grammar.specs.declared.kinds.Suffix.TheVariants.{Infix, Assigns, Asks, Commas, Subscripts, Calls, Selects, Points, Steps, ClosesRound, ClosesSquare, Colons, NoSuffix}
+use Rattle.c_grammar.specs.declared.kinds.Suffix.TheVariants.{Infix, Assigns, Asks, Commas, Subscripts, Calls, Selects, Points, Steps, NoSuffix}
 use Rattle.c_grammar.specs.Kinds.{kind_at, suffix, needs, below, Prefix, Names, Constants, Texts, Opens, StepsFirst, Operates, Sizes, NoPrefix, prefix, begins_type}
-use Rattle.c_grammar.specs.Reader.{Outcome, Gives, and_then, where_round, where_square, Reader, Continues, Lists, Types, items, items_after, call_of, choice_of, suffix_taken, bracketed, sized_by, sized, prefix_taken}
+use Rattle.c_grammar.specs.ReadExpressions.{Outcome, Gives, and_then, where_closes, where_square_closes, ReadsExpression, Continues, Lists, Types, items, items_after, call_of, choice_of, suffix_taken, bracketed, sized_by, sized, prefix_taken}
 use Rattle.c_grammar.specs.Readers.{read, more, types}
 use Rattle.c_grammar_laws.proofs.KindLaws.{suffix_means, prefix_means, level_high}
-use Rattle.c_grammar_laws.proofs.Steps.{then_gives, gives_as, round_gives, square_gives, colon_gives, name_gives, if_gives, unless_gives, le_true, Decided, more_ends, more_none, more_goes, items_none, items_on, goes_true}
+use Rattle.c_grammar.specs.Marks as sign
+use Rattle.c_grammar.specs.Marks.{Mark, mark_at}
+use Rattle.c_grammar_laws.proofs.Marked.{closes_gives, square_closes_gives, colon_gives, says}
+use Rattle.c_grammar_laws.proofs.Steps.{then_gives, gives_as, name_gives, if_gives, unless_gives, le_true, Decided, more_ends, more_none, more_goes, items_none, items_on, goes_true}
 
 -- ---- levels
 
@@ -32,7 +35,7 @@ down kinds k j p q x h d =
 
 -- ---- what is asked of the parts
 
-abbrev pub IsSoundReader : List TokenKind → Reader → Type 0
+abbrev pub IsSoundReader : List TokenKind → ReadsExpression → Type 0
 IsSoundReader kinds rd = (least : ℕ) (p : Place) (x : Expression) (q : Place) → least ≤ 14 → rd least p ≡ Gives x q → IsExpression kinds least p q x
 
 abbrev pub IsSoundContinues : List TokenKind → Continues → Type 0
@@ -55,7 +58,7 @@ items_after_sound kinds list il p q r x xs Commas e d h =
     gives_as (λ ys v. AreAssignments kinds p v ys) (x ∷ t.0) xs t.1 r t.3 all
 items_after_sound kinds list il p q r x xs _ e d h = gives_as (λ ys v. AreAssignments kinds p v ys) (x ∷ []) xs q r h (grammar.one_assignment p q x d)
 
-pub items_sound : (kinds : List TokenKind) (rd : Reader) → IsSoundReader kinds rd → (n : ℕ) → IsSoundLists kinds (items kinds rd n)
+pub items_sound : (kinds : List TokenKind) (rd : ReadsExpression) → IsSoundReader kinds rd → (n : ℕ) → IsSoundLists kinds (items kinds rd n)
 items_sound kinds rd ird zero p xs q h = let z = items_none kinds rd p in cc
 items_sound kinds rd ird (suc n) p xs q h =
     let t = then_gives (rd 1 p) (λ x v. items_after (items kinds rd n) x v (suffix (kind_at kinds v))) xs q (sym (items_on kinds rd n p) ∙ h) in
@@ -63,28 +66,28 @@ items_sound kinds rd ird (suc n) p xs q h =
 
 -- ---- after an operand
 
-call_sound : (kinds : List TokenKind) (list : Lists) (go : Continues) → IsSoundLists kinds list → IsSoundContinues kinds go → (least : ℕ) (p q r : Place) (x y : Expression) (s : Suffix)
-    → least ≤ 15 → suffix (kind_at kinds q) ≡ Calls → suffix (kind_at kinds (next q)) ≡ s → IsExpression kinds 15 p q x → call_of kinds list go least x q s ≡ Gives y r
+call_sound : (kinds : List TokenKind) (list : Lists) (go : Continues) → IsSoundLists kinds list → IsSoundContinues kinds go → (least : ℕ) (p q r : Place) (x y : Expression) (s : Mark)
+    → least ≤ 15 → suffix (kind_at kinds q) ≡ Calls → mark_at kinds (next q) ≡ s → IsExpression kinds 15 p q x → call_of kinds list go least x q s ≡ Gives y r
     → IsExpression kinds least p r y
-call_sound kinds list go il igo least p q r x y ClosesRound le e f d h =
+call_sound kinds list go il igo least p q r x y sign.RoundCloses le e f d h =
     igo 15 least p (next (next q)) r (tree.Call x [] q.at) y le
-    (grammar.call_empty p q x d (suffix_means (kind_at kinds q) Calls e (λ z. cc)) (suffix_means (kind_at kinds (next q)) ClosesRound f (λ z. cc))) h
+    (grammar.call_empty p q x d (suffix_means (kind_at kinds q) Calls e (λ z. cc)) (says kinds (next q) sign.RoundCloses f (λ z. cc))) h
 call_sound kinds list go il igo least p q r x y _ le e f d h =
-    let t = then_gives (list (next q)) (λ xs v. where_round (suffix (kind_at kinds v)) (go 15 least (tree.Call x xs q.at) (next v))) y r h in
-    let c = round_gives (suffix (kind_at kinds t.1)) (go 15 least (tree.Call x t.0 q.at) (next t.1)) y r t.3 in
+    let t = then_gives (list (next q)) (λ xs v. where_closes (mark_at kinds v) (go 15 least (tree.Call x xs q.at) (next v))) y r h in
+    let c = closes_gives (mark_at kinds t.1) (go 15 least (tree.Call x t.0 q.at) (next t.1)) y r t.3 in
     igo 15 least p (next t.1) r (tree.Call x t.0 q.at) y le
-    (grammar.call p q t.1 x t.0 d (suffix_means (kind_at kinds q) Calls e (λ z. cc)) (il (next q) t.0 t.1 t.2) (suffix_means (kind_at kinds t.1) ClosesRound c.0 (λ z. cc))) c.1
+    (grammar.call p q t.1 x t.0 d (suffix_means (kind_at kinds q) Calls e (λ z. cc)) (il (next q) t.0 t.1 t.2) (says kinds t.1 sign.RoundCloses c.0 (λ z. cc))) c.1
 
-choice_sound : (kinds : List TokenKind) (rd : Reader) (go : Continues) → IsSoundReader kinds rd → IsSoundContinues kinds go → (least : ℕ) (p q r v : Place) (x y w : Expression)
+choice_sound : (kinds : List TokenKind) (rd : ReadsExpression) (go : Continues) → IsSoundReader kinds rd → IsSoundContinues kinds go → (least : ℕ) (p q r v : Place) (x y w : Expression)
     → least ≤ 2 → suffix (kind_at kinds q) ≡ Asks → IsExpression kinds 3 p q x → IsExpression kinds 0 (next q) r y → choice_of kinds rd go least x q y r ≡ Gives w v
     → IsExpression kinds least p v w
 choice_sound kinds rd go ird igo least p q r v x y w le e d f h =
-    let c = colon_gives (suffix (kind_at kinds r)) (and_then (rd 2 (next r)) (λ z s. go 2 least (tree.Conditional x y z q.at) s)) w v h in
+    let c = colon_gives (mark_at kinds r) (and_then (rd 2 (next r)) (λ z s. go 2 least (tree.Conditional x y z q.at) s)) w v h in
     let t = then_gives (rd 2 (next r)) (λ z s. go 2 least (tree.Conditional x y z q.at) s) w v c.1 in
     igo 2 least p t.1 v (tree.Conditional x y t.0 q.at) w le
-    (grammar.conditional p q r t.1 x y t.0 d (suffix_means (kind_at kinds q) Asks e (λ z. cc)) f (suffix_means (kind_at kinds r) Colons c.0 (λ z. cc)) (ird 2 (next r) t.0 t.1 (omega arith) t.2)) t.3
+    (grammar.conditional p q r t.1 x y t.0 d (suffix_means (kind_at kinds q) Asks e (λ z. cc)) f (says kinds r sign.Colon c.0 (λ z. cc)) (ird 2 (next r) t.0 t.1 (omega arith) t.2)) t.3
 
-pub suffix_sound : (kinds : List TokenKind) (rd : Reader) (list : Lists) (go : Continues) → IsSoundReader kinds rd → IsSoundLists kinds list → IsSoundContinues kinds go
+pub suffix_sound : (kinds : List TokenKind) (rd : ReadsExpression) (list : Lists) (go : Continues) → IsSoundReader kinds rd → IsSoundLists kinds list → IsSoundContinues kinds go
     → (reached least : ℕ) (p q r : Place) (x y : Expression) (s : Suffix) → least < below s → needs s ≤ reached → suffix (kind_at kinds q) ≡ s
     → IsExpression kinds reached p q x → suffix_taken kinds rd list go least x q s ≡ Gives y r → IsExpression kinds least p r y
 suffix_sound kinds rd list go ird il igo reached least p q r x y (Infix operator) a b e d h =
@@ -104,13 +107,13 @@ suffix_sound kinds rd list go ird il igo reached least p q r x y Commas a b e d 
     igo 0 least p t.1 r (tree.Comma (x ∷ t.0) q.at) y (omega arith)
     (grammar.comma p q t.1 x t.0 (down kinds 1 reached p q x b d) (suffix_means (kind_at kinds q) Commas e (λ z. cc)) (il (next q) t.0 t.1 t.2)) t.3
 suffix_sound kinds rd list go ird il igo reached least p q r x y Subscripts a b e d h =
-    let t = then_gives (rd 0 (next q)) (λ z v. where_square (suffix (kind_at kinds v)) (go 15 least (tree.Subscript x z q.at) (next v))) y r h in
-    let c = square_gives (suffix (kind_at kinds t.1)) (go 15 least (tree.Subscript x t.0 q.at) (next t.1)) y r t.3 in
+    let t = then_gives (rd 0 (next q)) (λ z v. where_square_closes (mark_at kinds v) (go 15 least (tree.Subscript x z q.at) (next v))) y r h in
+    let c = square_closes_gives (mark_at kinds t.1) (go 15 least (tree.Subscript x t.0 q.at) (next t.1)) y r t.3 in
     igo 15 least p (next t.1) r (tree.Subscript x t.0 q.at) y (omega arith)
     (grammar.subscript p q t.1 x t.0 (down kinds 15 reached p q x b d) (suffix_means (kind_at kinds q) Subscripts e (λ z. cc)) (ird 0 (next q) t.0 t.1 (omega arith) t.2)
-    (suffix_means (kind_at kinds t.1) ClosesSquare c.0 (λ z. cc))) c.1
+    (says kinds t.1 sign.SquareCloses c.0 (λ z. cc))) c.1
 suffix_sound kinds rd list go ird il igo reached least p q r x y Calls a b e d h =
-    call_sound kinds list go il igo least p q r x y (suffix (kind_at kinds (next q))) (omega arith) e refl (down kinds 15 reached p q x b d) h
+    call_sound kinds list go il igo least p q r x y (mark_at kinds (next q)) (omega arith) e refl (down kinds 15 reached p q x b d) h
 suffix_sound kinds rd list go ird il igo reached least p q r x y Selects a b e d h =
     let t = name_gives (prefix (kind_at kinds (next q))) (λ text. go 15 least (tree.Member x text q.at) (next (next q))) y r h in
     igo 15 least p (next (next q)) r (tree.Member x t.0 q.at) y (omega arith)
@@ -122,55 +125,52 @@ suffix_sound kinds rd list go ird il igo reached least p q r x y Points a b e d 
 suffix_sound kinds rd list go ird il igo reached least p q r x y (Steps step) a b e d h =
     igo 15 least p (next q) r (tree.Postfix step x q.at) y (omega arith)
     (grammar.postfix p q step x (down kinds 15 reached p q x b d) (suffix_means (kind_at kinds q) (Steps step) e (λ z. cc))) h
-suffix_sound kinds rd list go ird il igo reached least p q r x y ClosesRound a b e d h = cc
-suffix_sound kinds rd list go ird il igo reached least p q r x y ClosesSquare a b e d h = cc
-suffix_sound kinds rd list go ird il igo reached least p q r x y Colons a b e d h = cc
 suffix_sound kinds rd list go ird il igo reached least p q r x y NoSuffix a b e d h = cc
 
 -- ---- where an operand is due
 
-bracketed_sound : (kinds : List TokenKind) (rd : Reader) (types : Types) (go : Continues) → IsSoundReader kinds rd → IsSoundTypes kinds types → IsSoundContinues kinds go
+bracketed_sound : (kinds : List TokenKind) (rd : ReadsExpression) (types : Types) (go : Continues) → IsSoundReader kinds rd → IsSoundTypes kinds types → IsSoundContinues kinds go
     → (least : ℕ) (p r : Place) (y : Expression) (b : Bool) → least ≤ 14 → prefix (kind_at kinds p) ≡ Opens → bracketed kinds rd types go least p b ≡ Gives y r
     → IsExpression kinds least p r y
 bracketed_sound kinds rd types go ird it igo least p r y true le e h =
-    let f = if_gives (nat_le least 13) (and_then (types (next p)) (λ t q. where_round (suffix (kind_at kinds q)) (and_then (rd 13 (next q)) (λ x v. go 13 least (tree.Cast t x p.at) v)))) y r h in
-    let t = then_gives (types (next p)) (λ t q. where_round (suffix (kind_at kinds q)) (and_then (rd 13 (next q)) (λ x v. go 13 least (tree.Cast t x p.at) v))) y r f.1 in
-    let c = round_gives (suffix (kind_at kinds t.1)) (and_then (rd 13 (next t.1)) (λ x v. go 13 least (tree.Cast t.0 x p.at) v)) y r t.3 in
+    let f = if_gives (nat_le least 13) (and_then (types (next p)) (λ t q. where_closes (mark_at kinds q) (and_then (rd 13 (next q)) (λ x v. go 13 least (tree.Cast t x p.at) v)))) y r h in
+    let t = then_gives (types (next p)) (λ t q. where_closes (mark_at kinds q) (and_then (rd 13 (next q)) (λ x v. go 13 least (tree.Cast t x p.at) v))) y r f.1 in
+    let c = closes_gives (mark_at kinds t.1) (and_then (rd 13 (next t.1)) (λ x v. go 13 least (tree.Cast t.0 x p.at) v)) y r t.3 in
     let u = then_gives (rd 13 (next t.1)) (λ x v. go 13 least (tree.Cast t.0 x p.at) v) y r c.1 in
     igo 13 least p u.1 r (tree.Cast t.0 u.0 p.at) y (le_true least 13 f.0)
-    (grammar.cast p t.1 u.1 t.0 u.0 (prefix_means (kind_at kinds p) Opens e (λ z. cc)) (it (next p) t.0 t.1 t.2) (suffix_means (kind_at kinds t.1) ClosesRound c.0 (λ z. cc))
+    (grammar.cast p t.1 u.1 t.0 u.0 (prefix_means (kind_at kinds p) Opens e (λ z. cc)) (it (next p) t.0 t.1 t.2) (says kinds t.1 sign.RoundCloses c.0 (λ z. cc))
     (ird 13 (next t.1) u.0 u.1 (omega arith) u.2)) u.3
 bracketed_sound kinds rd types go ird it igo least p r y false le e h =
-    let t = then_gives (rd 0 (next p)) (λ x q. where_round (suffix (kind_at kinds q)) (go 15 least x (next q))) y r h in
-    let c = round_gives (suffix (kind_at kinds t.1)) (go 15 least t.0 (next t.1)) y r t.3 in
+    let t = then_gives (rd 0 (next p)) (λ x q. where_closes (mark_at kinds q) (go 15 least x (next q))) y r h in
+    let c = closes_gives (mark_at kinds t.1) (go 15 least t.0 (next t.1)) y r t.3 in
     igo 15 least p (next t.1) r t.0 y (omega arith)
-    (grammar.brackets p t.1 t.0 (prefix_means (kind_at kinds p) Opens e (λ z. cc)) (ird 0 (next p) t.0 t.1 (omega arith) t.2) (suffix_means (kind_at kinds t.1) ClosesRound c.0 (λ z. cc))) c.1
+    (grammar.brackets p t.1 t.0 (prefix_means (kind_at kinds p) Opens e (λ z. cc)) (ird 0 (next p) t.0 t.1 (omega arith) t.2) (says kinds t.1 sign.RoundCloses c.0 (λ z. cc))) c.1
 
-sized_expression_sound : (kinds : List TokenKind) (rd : Reader) (types : Types) (go : Continues) → IsSoundReader kinds rd → IsSoundContinues kinds go
+sized_expression_sound : (kinds : List TokenKind) (rd : ReadsExpression) (types : Types) (go : Continues) → IsSoundReader kinds rd → IsSoundContinues kinds go
     → (least : ℕ) (p r : Place) (y : Expression) → least ≤ 14 → prefix (kind_at kinds p) ≡ Sizes → sized_by kinds rd types go least p false ≡ Gives y r → IsExpression kinds least p r y
 sized_expression_sound kinds rd types go ird igo least p r y le e h =
     let t = then_gives (rd 14 (next p)) (λ x q. go 14 least (tree.SizeofExpression x p.at) q) y r h in
     igo 14 least p t.1 r (tree.SizeofExpression t.0 p.at) y le
     (grammar.sizeof_expression p t.1 t.0 (prefix_means (kind_at kinds p) Sizes e (λ z. cc)) (ird 14 (next p) t.0 t.1 (omega arith) t.2)) t.3
 
-sized_opens_sound : (kinds : List TokenKind) (rd : Reader) (types : Types) (go : Continues) → IsSoundReader kinds rd → IsSoundTypes kinds types → IsSoundContinues kinds go
+sized_opens_sound : (kinds : List TokenKind) (rd : ReadsExpression) (types : Types) (go : Continues) → IsSoundReader kinds rd → IsSoundTypes kinds types → IsSoundContinues kinds go
     → (least : ℕ) (p r : Place) (y : Expression) (b : Bool) → least ≤ 14 → prefix (kind_at kinds p) ≡ Sizes → prefix (kind_at kinds (next p)) ≡ Opens
     → sized_by kinds rd types go least p b ≡ Gives y r → IsExpression kinds least p r y
 sized_opens_sound kinds rd types go ird it igo least p r y true le e f h =
-    let t = then_gives (types (next (next p))) (λ t q. where_round (suffix (kind_at kinds q)) (go 14 least (tree.SizeofType t p.at) (next q))) y r h in
-    let c = round_gives (suffix (kind_at kinds t.1)) (go 14 least (tree.SizeofType t.0 p.at) (next t.1)) y r t.3 in
+    let t = then_gives (types (next (next p))) (λ t q. where_closes (mark_at kinds q) (go 14 least (tree.SizeofType t p.at) (next q))) y r h in
+    let c = closes_gives (mark_at kinds t.1) (go 14 least (tree.SizeofType t.0 p.at) (next t.1)) y r t.3 in
     igo 14 least p (next t.1) r (tree.SizeofType t.0 p.at) y le
     (grammar.sizeof_type p t.1 t.0 (prefix_means (kind_at kinds p) Sizes e (λ z. cc)) (prefix_means (kind_at kinds (next p)) Opens f (λ z. cc)) (it (next (next p)) t.0 t.1 t.2)
-    (suffix_means (kind_at kinds t.1) ClosesRound c.0 (λ z. cc))) c.1
+    (says kinds t.1 sign.RoundCloses c.0 (λ z. cc))) c.1
 sized_opens_sound kinds rd types go ird it igo least p r y false le e f h = sized_expression_sound kinds rd types go ird igo least p r y le e h
 
-sized_sound : (kinds : List TokenKind) (rd : Reader) (types : Types) (go : Continues) → IsSoundReader kinds rd → IsSoundTypes kinds types → IsSoundContinues kinds go
+sized_sound : (kinds : List TokenKind) (rd : ReadsExpression) (types : Types) (go : Continues) → IsSoundReader kinds rd → IsSoundTypes kinds types → IsSoundContinues kinds go
     → (least : ℕ) (p r : Place) (y : Expression) (s : Prefix) → least ≤ 14 → prefix (kind_at kinds p) ≡ Sizes → prefix (kind_at kinds (next p)) ≡ s
     → sized kinds rd types go least p s ≡ Gives y r → IsExpression kinds least p r y
 sized_sound kinds rd types go ird it igo least p r y Opens le e f h = sized_opens_sound kinds rd types go ird it igo least p r y (begins_type kinds (next (next p))) le e f h
 sized_sound kinds rd types go ird it igo least p r y _ le e f h = sized_expression_sound kinds rd types go ird igo least p r y le e h
 
-pub prefix_sound : (kinds : List TokenKind) (rd : Reader) (types : Types) (go : Continues) → IsSoundReader kinds rd → IsSoundTypes kinds types → IsSoundContinues kinds go
+pub prefix_sound : (kinds : List TokenKind) (rd : ReadsExpression) (types : Types) (go : Continues) → IsSoundReader kinds rd → IsSoundTypes kinds types → IsSoundContinues kinds go
     → (least : ℕ) (p r : Place) (y : Expression) (s : Prefix) → least ≤ 14 → prefix (kind_at kinds p) ≡ s → prefix_taken kinds rd types go least p s ≡ Gives y r
     → IsExpression kinds least p r y
 prefix_sound kinds rd types go ird it igo least p r y (Names text) le e h =

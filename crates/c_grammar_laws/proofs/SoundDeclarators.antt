@@ -1,5 +1,5 @@
 -- What the reader of declarators and type names reads is spelled by the tokens.
-use Rattle.std.proofs.Common.{◌≡◌, ℕ, zero, suc, List, [], ◌∷◌, None, Bool, true, false, refl, ◌∙◌, sym, arith}
+use Rattle.std.proofs.Common.{◌≡◌, ℕ, zero, suc, List, [], ◌∷◌, Some, None, Bool, false, refl, ◌∙◌, sym, arith}
 use Rattle.c_tokens.specs.declared.token.TokenKind.{TokenKind}
 use Rattle.c_tokens.specs.declared.token.TokenKind.TheVariants as token
 use Rattle.c_tree.specs.declared.expression.Qualifier.{Qualifier}
@@ -13,20 +13,21 @@ use Rattle.c_tree.specs.Spells as grammar
 use Rattle.c_tree.specs.Spells.{IsExpression, AreAttributes, AreQualifiers, AreSpecifiers, IsDecorated, IsDeclarator, IsDirect, AreParameters, IsParameter, IsUnnamed, AreArrays, IsTypeName, nearest, InParameter, InTypeName, may_all_qualify}
 use Rattle.c_grammar.specs.Marks as sign
 use Rattle.c_grammar.specs.Marks.{Mark, NoMark, mark_at}
-use Rattle.c_grammar.specs.Reader.{Outcome, Gives, Reader}
+use Rattle.c_grammar.specs.ReadExpressions.{Outcome, Gives, ReadsExpression}
 use Rattle.c_grammar.specs.ReadTypes as read
 use Rattle.c_grammar.specs.ReadTypes.{Skips, attributes, ListOf, Specified, Specifies, Titled, Titles, ReadsSpecifiers, ReadsDeclarator, qualifiers, Takes, Taken, Perhaps, With, Without, Suffixes, ReadsPerhaps}
 use Rattle.c_grammar_laws.proofs.TypeSteps.{suffixes_none, suffixes_on, parameters_none, parameters_on, arrays_none, arrays_on, unnamed_none, unnamed_on}
 use Rattle.c_grammar_laws.proofs.Steps.{then_gives, gives_as, if_gives}
 use Rattle.c_grammar_laws.proofs.Sound.{IsSoundReader}
-use Rattle.c_grammar_laws.proofs.SoundTypes.{says, closes_gives, square_closes_gives, IsSoundSkips, attributes_sound, IsSound, SpecifiedAs, DecoratedAs, DirectAs, PerhapsAs, TakesAs, qualifiers_sound}
+use Rattle.c_grammar_laws.proofs.Marked.{closes_gives, square_closes_gives, says}
+use Rattle.c_grammar_laws.proofs.SoundTypes.{IsSoundSkips, attributes_sound, IsSound, SpecifiedAs, DecoratedAs, DirectAs, PerhapsAs, TakesAs, qualifiers_sound}
 
 -- ---- after a direct declarator
 
 abbrev pub IsSoundSuffixes : List TokenKind → Suffixes → Type 0
 IsSoundSuffixes kinds go = (p q r : Place) (d e : Titled) → DirectAs kinds p q d → go d q ≡ Gives e r → DirectAs kinds p r e
 
-array_by_sound : (kinds : List TokenKind) (rd : Reader) → IsSoundReader kinds rd → (go : Suffixes) → IsSoundSuffixes kinds go → (p q r : Place) (d e : Titled) (m : Mark)
+array_by_sound : (kinds : List TokenKind) (rd : ReadsExpression) → IsSoundReader kinds rd → (go : Suffixes) → IsSoundSuffixes kinds go → (p q r : Place) (d e : Titled) (m : Mark)
     → At kinds q token.LeftBracket → mark_at kinds (next q) ≡ m → DirectAs kinds p q d → read.array_by kinds rd go d q m ≡ Gives e r → DirectAs kinds p r e
 array_by_sound kinds rd ird go ig p q r (Titles name parameters inner) e sign.SquareCloses a f d h =
     ig p (next (next q)) r (Titles name parameters (declarator_node.OpenArray inner q.at)) e
@@ -47,13 +48,13 @@ with_parameters_sound kinds go ig p q s r (Titles name parameters inner) e (Take
 function_by_sound : (kinds : List TokenKind) (list : Place → Outcome Takes) → IsSound (TakesAs kinds) list → (go : Suffixes) → IsSoundSuffixes kinds go → (p q r : Place) (d e : Titled) (m : Mark)
     → At kinds q token.LeftParenthesis → mark_at kinds (next q) ≡ m → DirectAs kinds p q d → read.function_by kinds list go d q m ≡ Gives e r → DirectAs kinds p r e
 function_by_sound kinds list il go ig p q r (Titles name parameters inner) e sign.RoundCloses a f d h =
-    ig p (next (next q)) r (Titles name (nearest parameters []) (declarator_node.Function inner [] false q.at)) e
+    ig p (next (next q)) r (Titles name (nearest parameters []) (declarator_node.Function inner [] None q.at)) e
     (grammar.function_empty p q name parameters inner d a (says kinds (next q) sign.RoundCloses f (λ z. cc))) h
 function_by_sound kinds list il go ig p q r d e _ a f g h =
     let t = then_gives (list (enter (next q))) (read.with_parameters kinds go d q) e r h in
     with_parameters_sound kinds go ig p q t.1 r d e t.0 a g (il (enter (next q)) t.0 t.1 t.2) t.3
 
-suffixes_by_sound : (kinds : List TokenKind) (rd : Reader) → IsSoundReader kinds rd → (list : Place → Outcome Takes) → IsSound (TakesAs kinds) list → (go : Suffixes) → IsSoundSuffixes kinds go
+suffixes_by_sound : (kinds : List TokenKind) (rd : ReadsExpression) → IsSoundReader kinds rd → (list : Place → Outcome Takes) → IsSound (TakesAs kinds) list → (go : Suffixes) → IsSoundSuffixes kinds go
     → (p q r : Place) (d e : Titled) (m : Mark) → mark_at kinds q ≡ m → DirectAs kinds p q d → read.suffixes_by kinds rd list go d q m ≡ Gives e r → DirectAs kinds p r e
 suffixes_by_sound kinds rd ird list il go ig p q r d e sign.SquareOpens f g h =
     array_by_sound kinds rd ird go ig p q r d e (mark_at kinds (next q)) (says kinds q sign.SquareOpens f (λ z. cc)) refl g h
@@ -61,7 +62,7 @@ suffixes_by_sound kinds rd ird list il go ig p q r d e sign.RoundOpens f g h =
     function_by_sound kinds list il go ig p q r d e (mark_at kinds (next q)) (says kinds q sign.RoundOpens f (λ z. cc)) refl g h
 suffixes_by_sound kinds rd ird list il go ig p q r d e _ f g h = gives_as (λ y v. DirectAs kinds p v y) d e q r h g
 
-suffixes_sound : (kinds : List TokenKind) (rd : Reader) → IsSoundReader kinds rd → (list : Place → Outcome Takes) → IsSound (TakesAs kinds) list → (n : ℕ)
+suffixes_sound : (kinds : List TokenKind) (rd : ReadsExpression) → IsSoundReader kinds rd → (list : Place → Outcome Takes) → IsSound (TakesAs kinds) list → (n : ℕ)
     → IsSoundSuffixes kinds (read.suffixes kinds rd list n)
 suffixes_sound kinds rd ird list il zero p q r d e g h = let z = suffixes_none kinds rd list d q in cc
 suffixes_sound kinds rd ird list il (suc n) p q r d e g h =
@@ -148,7 +149,7 @@ first_taken_sound kinds p q r s x (Taken list variadic) y d a f h =
 parameters_comma_sound : (kinds : List TokenKind) (more : Place → Outcome Takes) → IsSound (TakesAs kinds) more → (p q r : Place) (x : Parameter) (y : Takes) (m : Mark) → IsParameter kinds p q x
     → At kinds q token.Comma → mark_at kinds (next q) ≡ m → read.parameters_comma more x (next q) m ≡ Gives y r → TakesAs kinds p r y
 parameters_comma_sound kinds more im p q r x y sign.Ellipsis d a e h =
-    gives_as (λ z v. TakesAs kinds p v z) (Taken (x ∷ []) true) y (next (next q)) r h (grammar.variadic_parameters p q x d a (says kinds (next q) sign.Ellipsis e (λ z. cc)))
+    gives_as (λ z v. TakesAs kinds p v z) (Taken (x ∷ []) (Some (next q).at)) y (next (next q)) r h (grammar.variadic_parameters p q x d a (says kinds (next q) sign.Ellipsis e (λ z. cc)))
 parameters_comma_sound kinds more im p q r x y _ d a e h =
     let t = then_gives (more (next q)) (read.first_taken x) y r h in
     first_taken_sound kinds p q t.1 r x t.0 y d a (im (next q) t.0 t.1 t.2) t.3
@@ -156,7 +157,7 @@ parameters_comma_sound kinds more im p q r x y _ d a e h =
 parameters_after_sound : (kinds : List TokenKind) (more : Place → Outcome Takes) → IsSound (TakesAs kinds) more → (p q r : Place) (x : Parameter) (y : Takes) (m : Mark) → IsParameter kinds p q x
     → mark_at kinds q ≡ m → read.parameters_after kinds more x q m ≡ Gives y r → TakesAs kinds p r y
 parameters_after_sound kinds more im p q r x y sign.Comma d e h = parameters_comma_sound kinds more im p q r x y (mark_at kinds (next q)) d (says kinds q sign.Comma e (λ z. cc)) refl h
-parameters_after_sound kinds more im p q r x y _ d e h = gives_as (λ z v. TakesAs kinds p v z) (Taken (x ∷ []) false) y q r h (grammar.one_parameter p q x d)
+parameters_after_sound kinds more im p q r x y _ d e h = gives_as (λ z v. TakesAs kinds p v z) (Taken (x ∷ []) None) y q r h (grammar.one_parameter p q x d)
 
 parameters_sound : (kinds : List TokenKind) (one : Place → Outcome Parameter) → IsSound (IsParameter kinds) one → (n : ℕ) → IsSound (TakesAs kinds) (read.parameters kinds one n)
 parameters_sound kinds one io zero p y q h = let z = parameters_none kinds one p in cc
@@ -164,7 +165,7 @@ parameters_sound kinds one io (suc n) p y q h =
     let t = then_gives (one p) (λ x v. read.parameters_after kinds (read.parameters kinds one n) x v (mark_at kinds v)) y q (sym (parameters_on kinds one n p) ∙ h) in
     parameters_after_sound kinds (read.parameters kinds one n) (parameters_sound kinds one io n) p t.1 q t.0 y (mark_at kinds t.1) (io p t.0 t.1 t.2) refl t.3
 
-pub perhaps_with_sound : (kinds : List TokenKind) (rd : Reader) → IsSoundReader kinds rd → (sp : ReadsSpecifiers) → IsSound (SpecifiedAs kinds) sp → (one : ReadsPerhaps) → IsSound (PerhapsAs kinds) one
+pub perhaps_with_sound : (kinds : List TokenKind) (rd : ReadsExpression) → IsSoundReader kinds rd → (sp : ReadsSpecifiers) → IsSound (SpecifiedAs kinds) sp → (one : ReadsPerhaps) → IsSound (PerhapsAs kinds) one
     → (n : ℕ) (p r : Place) (y : Perhaps) (m : Mark) → mark_at kinds p ≡ m → read.perhaps_with kinds rd sp one n p m ≡ Gives y r → PerhapsAs kinds p r y
 perhaps_with_sound kinds rd ird sp is one io n p r y m e h =
     let skip = attributes_sound kinds n in
@@ -178,7 +179,7 @@ perhaps_with_sound kinds rd ird sp is one io n p r y m e h =
 abbrev IsSoundArrays : List TokenKind → (Declarator → Place → Outcome Declarator) → Type 0
 IsSoundArrays kinds go = (p q r : Place) (x y : Declarator) → AreArrays kinds p q x → go x q ≡ Gives y r → AreArrays kinds p r y
 
-arrays_by_sound : (kinds : List TokenKind) (rd : Reader) → IsSoundReader kinds rd → (go : Declarator → Place → Outcome Declarator) → IsSoundArrays kinds go → (p q r : Place) (x y : Declarator) (m : Mark)
+arrays_by_sound : (kinds : List TokenKind) (rd : ReadsExpression) → IsSoundReader kinds rd → (go : Declarator → Place → Outcome Declarator) → IsSoundArrays kinds go → (p q r : Place) (x y : Declarator) (m : Mark)
     → mark_at kinds q ≡ m → AreArrays kinds p q x → read.arrays_by kinds rd go x q m ≡ Gives y r → AreArrays kinds p r y
 arrays_by_sound kinds rd ird go ig p q r x y sign.SquareOpens e d h =
     let t = then_gives (rd 2 (next q)) _ y r h in
@@ -187,7 +188,7 @@ arrays_by_sound kinds rd ird go ig p q r x y sign.SquareOpens e d h =
     (grammar.unnamed_array p q t.1 x t.0 d (says kinds q sign.SquareOpens e (λ z. cc)) (ird 2 (next q) t.0 t.1 (omega arith) t.2) (says kinds t.1 sign.SquareCloses c.0 (λ z. cc))) c.1
 arrays_by_sound kinds rd ird go ig p q r x y _ e d h = gives_as (λ z v. AreArrays kinds p v z) x y q r h d
 
-arrays_sound : (kinds : List TokenKind) (rd : Reader) → IsSoundReader kinds rd → (n : ℕ) → IsSoundArrays kinds (read.arrays kinds rd n)
+arrays_sound : (kinds : List TokenKind) (rd : ReadsExpression) → IsSoundReader kinds rd → (n : ℕ) → IsSoundArrays kinds (read.arrays kinds rd n)
 arrays_sound kinds rd ird zero p q r x y d h = let z = arrays_none kinds rd x q in cc
 arrays_sound kinds rd ird (suc n) p q r x y d h =
     arrays_by_sound kinds rd ird (read.arrays kinds rd n) (arrays_sound kinds rd ird n) p q r x y (mark_at kinds q) refl d (sym (arrays_on kinds rd n x q) ∙ h)
@@ -203,7 +204,7 @@ unnamed_by_sound kinds go ig list il more im p r y sign.Star e h =
     (grammar.unnamed_pointer InTypeName p t.1 u.1 t.0 u.0 (says kinds p sign.Star e (λ z. cc)) (il (next p) t.0 t.1 t.2) f.0 (im t.1 u.0 u.1 u.2))
 unnamed_by_sound kinds go ig list il more im p r y _ e h = grammar.unnamed_arrays p r y (ig p p r (declarator_node.Unnamed p.at) y (grammar.no_arrays p) h)
 
-unnamed_sound : (kinds : List TokenKind) (rd : Reader) → IsSoundReader kinds rd → (n : ℕ) → IsSound (IsUnnamed kinds InTypeName) (read.unnamed kinds rd n)
+unnamed_sound : (kinds : List TokenKind) (rd : ReadsExpression) → IsSoundReader kinds rd → (n : ℕ) → IsSound (IsUnnamed kinds InTypeName) (read.unnamed kinds rd n)
 unnamed_sound kinds rd ird zero p y r h = let z = unnamed_none kinds rd p in cc
 unnamed_sound kinds rd ird (suc n) p y r h =
     unnamed_by_sound kinds (read.arrays kinds rd (suc n)) (arrays_sound kinds rd ird (suc n)) (qualifiers kinds n) (qualifiers_sound kinds n) (read.unnamed kinds rd n) (unnamed_sound kinds rd ird n)
@@ -215,7 +216,7 @@ named_type_sound kinds one io p q r (Specifies defines list) y d h =
     let t = then_gives (one q) _ y r h in
     gives_as (λ z v. IsTypeName kinds p v z) (record { specifiers = list; declarator = t.0 }) y t.1 r t.3 (grammar.type_name p q t.1 defines list t.0 d (io q t.0 t.1 t.2))
 
-pub type_name_sound : (kinds : List TokenKind) (rd : Reader) → IsSoundReader kinds rd → (sp : ReadsSpecifiers) → IsSound (SpecifiedAs kinds) sp → (n : ℕ)
+pub type_name_sound : (kinds : List TokenKind) (rd : ReadsExpression) → IsSoundReader kinds rd → (sp : ReadsSpecifiers) → IsSound (SpecifiedAs kinds) sp → (n : ℕ)
     → IsSound (IsTypeName kinds) (read.type_name kinds rd sp n)
 type_name_sound kinds rd ird sp is n p y r h =
     let t = then_gives (sp p) (read.named_type (read.unnamed kinds rd n)) y r h in

@@ -22,7 +22,7 @@ use Rattle.c_tree.specs.SpellsStatements.{IsInitialiser, AreParts, IsDeclared, A
 use Rattle.c_grammar.specs.Kinds.{begins_type}
 use Rattle.c_grammar.specs.Marks as sign
 use Rattle.c_grammar.specs.Marks.{Mark, NoMark, mark, mark_at}
-use Rattle.c_grammar.specs.Reader.{Outcome, Gives, and_then, Reader}
+use Rattle.c_grammar.specs.ReadExpressions.{Outcome, Gives, and_then, ReadsExpression}
 use Rattle.c_grammar.specs.ReadTypes.{ListOf, listed, Specified, Specifies, Titled, Titles}
 use Rattle.c_grammar.specs.Readers.{specifiers, declarator}
 use Rattle.c_grammar.specs.Readers as readers
@@ -31,12 +31,9 @@ use Rattle.c_grammar.specs.ReadStatements.{ReadsInitialiser, ReadsStatement, Rea
 use Rattle.c_grammar_laws.proofs.Steps.{then_gives, gives_as}
 use Rattle.c_grammar_laws.proofs.StatementSteps.{initialiser_none, initialiser_on, chain_none, chain_on, block_none, block_on, statement_none, statement_on}
 use Rattle.c_grammar_laws.proofs.Sound.{IsSoundReader}
-use Rattle.c_grammar_laws.proofs.SoundTypes.{says, opens_gives, closes_gives, curly_closes_gives, semicolon_gives, IsSound, SpecifiedAs, DecoratedAs, separated_sound, listed_sound}
+use Rattle.c_grammar_laws.proofs.Marked.{opens_gives, closes_gives, curly_closes_gives, semicolon_gives, colon_gives, says}
+use Rattle.c_grammar_laws.proofs.SoundTypes.{IsSound, SpecifiedAs, DecoratedAs, separated_sound, listed_sound}
 use Rattle.c_grammar_laws.proofs.SoundReaders.{readers_sound, declarator_sound}
-
-pub colon_gives : {B : Type 0} (m : Mark) (o : Outcome B) (y : B) (r : Place) → read.where_colon m o ≡ Gives y r → (m ≡ sign.Colon) × (o ≡ Gives y r)
-colon_gives sign.Colon o y r h = (refl, h)
-colon_gives _ o y r h = cc
 
 pub while_gives : {B : Type 0} (m : Mark) (o : Outcome B) (y : B) (r : Place) → read.where_while m o ≡ Gives y r → (m ≡ sign.While) × (o ≡ Gives y r)
 while_gives sign.While o y r h = (refl, h)
@@ -47,7 +44,7 @@ reader_sound kinds n = let i = readers_sound kinds n in i.0
 
 -- ---- declarations
 
-initialiser_by_sound : (kinds : List TokenKind) (rd : Reader) → IsSoundReader kinds rd → (parts : ListOf Initialiser) → IsSound (AreParts kinds) parts → (p r : Place) (y : Initialiser) (m : Mark)
+initialiser_by_sound : (kinds : List TokenKind) (rd : ReadsExpression) → IsSoundReader kinds rd → (parts : ListOf Initialiser) → IsSound (AreParts kinds) parts → (p r : Place) (y : Initialiser) (m : Mark)
     → mark_at kinds p ≡ m → read.initialiser_by kinds rd parts p m ≡ Gives y r → IsInitialiser kinds p r y
 initialiser_by_sound kinds rd ird parts ip p r y sign.CurlyOpens e h =
     let t = then_gives (parts (next p)) _ y r h in
@@ -56,7 +53,7 @@ initialiser_by_sound kinds rd ird parts ip p r y sign.CurlyOpens e h =
     (grammar.braces p t.1 t.0 (says kinds p sign.CurlyOpens e (λ z. cc)) (ip (next p) t.0 t.1 t.2) (says kinds t.1 sign.CurlyCloses c.0 (λ z. cc)))
 initialiser_by_sound kinds rd ird parts ip p r y _ e h =
     let t = then_gives (rd 1 p) _ y r h in
-    gives_as (λ z v. IsInitialiser kinds p v z) (initialiser_node.Value t.0) y t.1 r t.3 (grammar.value_initialiser p t.1 t.0 (ird 1 p t.0 t.1 (omega arith) t.2))
+    gives_as (λ z v. IsInitialiser kinds p v z) (initialiser_node.Value t.0 p.at) y t.1 r t.3 (grammar.value_initialiser p t.1 t.0 (ird 1 p t.0 t.1 (omega arith) t.2))
 
 parts_sound : (kinds : List TokenKind) (one : ReadsInitialiser) → IsSound (IsInitialiser kinds) one → (n : ℕ) → IsSound (AreParts kinds) (listed kinds one n)
 parts_sound kinds one io n =
@@ -123,7 +120,7 @@ declaration_sound kinds n p y r h =
 
 -- ---- parts of statements
 
-test_sound : (kinds : List TokenKind) (rd : Reader) → IsSoundReader kinds rd → IsSound (IsTest kinds) (read.test kinds rd)
+test_sound : (kinds : List TokenKind) (rd : ReadsExpression) → IsSoundReader kinds rd → IsSound (IsTest kinds) (read.test kinds rd)
 test_sound kinds rd ird p y r h =
     let a = opens_gives (mark_at kinds p) _ y r h in
     let t = then_gives (rd 0 (next p)) _ y r a.1 in
@@ -131,20 +128,20 @@ test_sound kinds rd ird p y r h =
     gives_as (λ z v. IsTest kinds p v z) t.0 y (next t.1) r c.1
     (grammar.bracketed_test p t.1 t.0 (says kinds p sign.RoundOpens a.0 (λ z. cc)) (ird 0 (next p) t.0 t.1 (omega arith) t.2) (says kinds t.1 sign.RoundCloses c.0 (λ z. cc)))
 
-some_sound : (kinds : List TokenKind) (rd : Reader) → IsSoundReader kinds rd → (p r : Place) (y : Option Expression) → and_then (rd 0 p) read.some ≡ Gives y r → IsOptional kinds p r y
+some_sound : (kinds : List TokenKind) (rd : ReadsExpression) → IsSoundReader kinds rd → (p r : Place) (y : Option Expression) → and_then (rd 0 p) read.some ≡ Gives y r → IsOptional kinds p r y
 some_sound kinds rd ird p r y h =
     let t = then_gives (rd 0 p) read.some y r h in
     gives_as (λ z v. IsOptional kinds p v z) (Some t.0) y t.1 r t.3 (grammar.some_value p t.1 t.0 (ird 0 p t.0 t.1 (omega arith) t.2))
 
-optional_sound : (kinds : List TokenKind) (rd : Reader) → IsSoundReader kinds rd → (p r : Place) (y : Option Expression) (m : Mark) → read.optional_by rd p m ≡ Gives y r → IsOptional kinds p r y
+optional_sound : (kinds : List TokenKind) (rd : ReadsExpression) → IsSoundReader kinds rd → (p r : Place) (y : Option Expression) (m : Mark) → read.optional_by rd p m ≡ Gives y r → IsOptional kinds p r y
 optional_sound kinds rd ird p r y sign.Semicolon h = gives_as (λ z v. IsOptional kinds p v z) None y p r h (grammar.no_value p)
 optional_sound kinds rd ird p r y _ h = some_sound kinds rd ird p r y h
 
-optional_step_sound : (kinds : List TokenKind) (rd : Reader) → IsSoundReader kinds rd → (p r : Place) (y : Option Expression) (m : Mark) → read.optional_step_by rd p m ≡ Gives y r → IsOptional kinds p r y
+optional_step_sound : (kinds : List TokenKind) (rd : ReadsExpression) → IsSoundReader kinds rd → (p r : Place) (y : Option Expression) (m : Mark) → read.optional_step_by rd p m ≡ Gives y r → IsOptional kinds p r y
 optional_step_sound kinds rd ird p r y sign.RoundCloses h = gives_as (λ z v. IsOptional kinds p v z) None y p r h (grammar.no_value p)
 optional_step_sound kinds rd ird p r y _ h = some_sound kinds rd ird p r y h
 
-start_else_sound : (kinds : List TokenKind) (rd : Reader) → IsSoundReader kinds rd → (dn : ReadsDeclaration) → IsSound (IsDeclaration kinds) dn → (p r : Place) (y : ForStart) (b : Bool)
+start_else_sound : (kinds : List TokenKind) (rd : ReadsExpression) → IsSoundReader kinds rd → (dn : ReadsDeclaration) → IsSound (IsDeclaration kinds) dn → (p r : Place) (y : ForStart) (b : Bool)
     → read.start_else kinds rd dn p b ≡ Gives y r → IsForStart kinds p r y
 start_else_sound kinds rd ird dn id p r y true h =
     let t = then_gives (dn p) _ y r h in
@@ -155,7 +152,7 @@ start_else_sound kinds rd ird dn id p r y false h =
     gives_as (λ z v. IsForStart kinds p v z) (start_node.Value t.0) y (next t.1) r c.1
     (grammar.start_value p t.1 t.0 (ird 0 p t.0 t.1 (omega arith) t.2) (says kinds t.1 sign.Semicolon c.0 (λ z. cc)))
 
-start_sound : (kinds : List TokenKind) (rd : Reader) → IsSoundReader kinds rd → (dn : ReadsDeclaration) → IsSound (IsDeclaration kinds) dn → (p r : Place) (y : ForStart) (m : Mark)
+start_sound : (kinds : List TokenKind) (rd : ReadsExpression) → IsSoundReader kinds rd → (dn : ReadsDeclaration) → IsSound (IsDeclaration kinds) dn → (p r : Place) (y : ForStart) (m : Mark)
     → mark_at kinds p ≡ m → read.start_by kinds rd dn p m ≡ Gives y r → IsForStart kinds p r y
 start_sound kinds rd ird dn id p r y sign.Semicolon e h =
     gives_as (λ z v. IsForStart kinds p v z) start_node.Nothing y (next p) r h (grammar.start_nothing p (says kinds p sign.Semicolon e (λ z. cc)))
@@ -234,7 +231,7 @@ chain_by_sound kinds st is more im p q r t x body y _ a b w f h =
     gives_as (λ z v. ChainAs kinds p v z) (Chains (record { test = x; body = body; at = p.at } ∷ []) None) y (leave (leave r)) t h
     (true, grammar.last_if p q r w.0 x body a b w.1, λ g k. let z = sym f ∙ k in cc)
 
-chain_sound : (kinds : List TokenKind) (rd : Reader) → IsSoundReader kinds rd → (st : ReadsStatement) → IsSound (Whole kinds) st → (n : ℕ) → IsSoundChain kinds (read.chain kinds rd st n)
+chain_sound : (kinds : List TokenKind) (rd : ReadsExpression) → IsSoundReader kinds rd → (st : ReadsStatement) → IsSound (Whole kinds) st → (n : ℕ) → IsSoundChain kinds (read.chain kinds rd st n)
 chain_sound kinds rd ird st is zero p a y t h = let z = chain_none kinds rd st p in cc
 chain_sound kinds rd ird st is (suc n) p a y t h =
     let u = then_gives (read.test kinds rd (enter (next p))) (read.chain_of kinds st (read.chain kinds rd st n) p) y t (sym (chain_on kinds rd st n p) ∙ h) in
@@ -280,7 +277,7 @@ block_sound kinds dn id st is (suc n) p xs r h =
 plainly : (kinds : List TokenKind) (p q r : Place) (x y : Statement) → IsStatement kinds false p q x → Gives x q ≡ Gives y r → Whole kinds p r y
 plainly kinds p q r x y d h = gives_as (λ z v. Whole kinds p v z) x y q r h (false, d, λ f g. cc)
 
-value_sound : (kinds : List TokenKind) (rd : Reader) → IsSoundReader kinds rd → IsSound (Whole kinds) (read.value_statement kinds rd)
+value_sound : (kinds : List TokenKind) (rd : ReadsExpression) → IsSoundReader kinds rd → IsSound (Whole kinds) (read.value_statement kinds rd)
 value_sound kinds rd ird p y r h =
     let t = then_gives (rd 0 p) _ y r h in
     let c = semicolon_gives (mark_at kinds t.1) _ y r t.3 in
@@ -295,7 +292,7 @@ block_statement_sound kinds items ii p r y a h =
     plainly kinds p (leave (next t.1)) r (statement_node.Block t.0 p.at) y
     (grammar.block p t.1 t.0 a (ii (enter (next p)) t.0 t.1 t.2) (says kinds t.1 sign.CurlyCloses c.0 (λ z. cc))) c.1
 
-name_sound : (kinds : List TokenKind) (rd : Reader) → IsSoundReader kinds rd → (st : ReadsStatement) → IsSound (Whole kinds) st → (p r : Place) (text : List ℕ) (y : Statement) (m : Mark)
+name_sound : (kinds : List TokenKind) (rd : ReadsExpression) → IsSoundReader kinds rd → (st : ReadsStatement) → IsSound (Whole kinds) st → (p r : Place) (text : List ℕ) (y : Statement) (m : Mark)
     → At kinds p (token.Name text) → mark_at kinds (next p) ≡ m → read.name_statement kinds rd st p text m ≡ Gives y r → Whole kinds p r y
 name_sound kinds rd ird st is p r text y sign.Colon a e h =
     let t = then_gives (read.labelled kinds st (next (next p))) _ y r h in
@@ -304,7 +301,7 @@ name_sound kinds rd ird st is p r text y sign.Colon a e h =
     (w.0, grammar.label p t.1 w.0 text t.0 a (says kinds (next p) sign.Colon e (λ z. cc)) w.1, w.2)
 name_sound kinds rd ird st is p r text y _ a e h = value_sound kinds rd ird p y r h
 
-case_sound : (kinds : List TokenKind) (rd : Reader) → IsSoundReader kinds rd → (st : ReadsStatement) → IsSound (Whole kinds) st → (p r : Place) (y : Statement) → At kinds p token.Case
+case_sound : (kinds : List TokenKind) (rd : ReadsExpression) → IsSoundReader kinds rd → (st : ReadsStatement) → IsSound (Whole kinds) st → (p r : Place) (y : Statement) → At kinds p token.Case
     → read.case_statement kinds rd st p ≡ Gives y r → Whole kinds p r y
 case_sound kinds rd ird st is p r y a h =
     let t = then_gives (rd 2 (next p)) _ y r h in
@@ -323,7 +320,7 @@ default_sound kinds st is p r y a h =
     gives_as (λ z v. Whole kinds p v z) (statement_node.Default u.0 p.at) y u.1 r u.3
     (w.0, grammar.default_label p u.1 w.0 u.0 a (says kinds (next p) sign.Colon c.0 (λ z. cc)) w.1, w.2)
 
-switch_sound : (kinds : List TokenKind) (rd : Reader) → IsSoundReader kinds rd → (st : ReadsStatement) → IsSound (Whole kinds) st → (p r : Place) (y : Statement) → At kinds p token.Switch
+switch_sound : (kinds : List TokenKind) (rd : ReadsExpression) → IsSoundReader kinds rd → (st : ReadsStatement) → IsSound (Whole kinds) st → (p r : Place) (y : Statement) → At kinds p token.Switch
     → read.switch_statement kinds rd st p ≡ Gives y r → Whole kinds p r y
 switch_sound kinds rd ird st is p r y a h =
     let t = then_gives (read.test kinds rd (enter (next p))) _ y r h in
@@ -332,7 +329,7 @@ switch_sound kinds rd ird st is p r y a h =
     gives_as (λ z v. Whole kinds p v z) (statement_node.Switch t.0 u.0 p.at) y (leave (leave u.1)) r u.3
     (w.0, grammar.switch_on p t.1 u.1 w.0 t.0 u.0 a (test_sound kinds rd ird (enter (next p)) t.0 t.1 t.2) w.1, w.2)
 
-while_sound : (kinds : List TokenKind) (rd : Reader) → IsSoundReader kinds rd → (st : ReadsStatement) → IsSound (Whole kinds) st → (p r : Place) (y : Statement) → At kinds p token.While
+while_sound : (kinds : List TokenKind) (rd : ReadsExpression) → IsSoundReader kinds rd → (st : ReadsStatement) → IsSound (Whole kinds) st → (p r : Place) (y : Statement) → At kinds p token.While
     → read.while_statement kinds rd st p ≡ Gives y r → Whole kinds p r y
 while_sound kinds rd ird st is p r y a h =
     let t = then_gives (read.test kinds rd (enter (next p))) _ y r h in
@@ -341,7 +338,7 @@ while_sound kinds rd ird st is p r y a h =
     gives_as (λ z v. Whole kinds p v z) (statement_node.While t.0 u.0 p.at) y (leave (leave u.1)) r u.3
     (w.0, grammar.while_loop p t.1 u.1 w.0 t.0 u.0 a (test_sound kinds rd ird (enter (next p)) t.0 t.1 t.2) w.1, w.2)
 
-do_sound : (kinds : List TokenKind) (rd : Reader) → IsSoundReader kinds rd → (st : ReadsStatement) → IsSound (Whole kinds) st → (p r : Place) (y : Statement) → At kinds p token.Do
+do_sound : (kinds : List TokenKind) (rd : ReadsExpression) → IsSoundReader kinds rd → (st : ReadsStatement) → IsSound (Whole kinds) st → (p r : Place) (y : Statement) → At kinds p token.Do
     → read.do_statement kinds rd st p ≡ Gives y r → Whole kinds p r y
 do_sound kinds rd ird st is p r y a h =
     let t = then_gives (st (enter (enter (next p)))) (read.do_after kinds rd p) y r h in
@@ -352,7 +349,7 @@ do_sound kinds rd ird st is p r y a h =
     plainly kinds p (leave (next u.1)) r (statement_node.Do t.0 u.0 p.at) y
     (grammar.do_loop p t.1 u.1 w.0 t.0 u.0 a w.1 (says kinds t.1 sign.While b.0 (λ z. cc)) (test_sound kinds rd ird (leave (next t.1)) u.0 u.1 u.2) (says kinds u.1 sign.Semicolon c.0 (λ z. cc))) c.1
 
-for_sound : (kinds : List TokenKind) (rd : Reader) → IsSoundReader kinds rd → (dn : ReadsDeclaration) → IsSound (IsDeclaration kinds) dn → (st : ReadsStatement) → IsSound (Whole kinds) st
+for_sound : (kinds : List TokenKind) (rd : ReadsExpression) → IsSoundReader kinds rd → (dn : ReadsDeclaration) → IsSound (IsDeclaration kinds) dn → (st : ReadsStatement) → IsSound (Whole kinds) st
     → (p r : Place) (y : Statement) → At kinds p token.For → read.for_statement kinds rd dn st p ≡ Gives y r → Whole kinds p r y
 for_sound kinds rd ird dn id st is p r y a h =
     let b = opens_gives (mark_at kinds (next p)) _ y r h in
@@ -372,7 +369,7 @@ for_sound kinds rd ird dn id st is p r y a h =
       w.2,
     )
 
-return_sound : (kinds : List TokenKind) (rd : Reader) → IsSoundReader kinds rd → (p r : Place) (y : Statement) → At kinds p token.Return → read.return_statement kinds rd p ≡ Gives y r → Whole kinds p r y
+return_sound : (kinds : List TokenKind) (rd : ReadsExpression) → IsSoundReader kinds rd → (p r : Place) (y : Statement) → At kinds p token.Return → read.return_statement kinds rd p ≡ Gives y r → Whole kinds p r y
 return_sound kinds rd ird p r y a h =
     let t = then_gives (read.optional_by rd (next p) (mark_at kinds (next p))) _ y r h in
     let c = semicolon_gives (mark_at kinds t.1) _ y r t.3 in
@@ -389,7 +386,7 @@ continue_sound kinds p r y a h =
     let c = semicolon_gives (mark_at kinds (next p)) _ y r h in
     plainly kinds p (next (next p)) r (statement_node.Continue p.at) y (grammar.continue_on p a (says kinds (next p) sign.Semicolon c.0 (λ z. cc))) c.1
 
-statement_by_sound : (kinds : List TokenKind) (rd : Reader) → IsSoundReader kinds rd → (dn : ReadsDeclaration) → IsSound (IsDeclaration kinds) dn → (st : ReadsStatement) → IsSound (Whole kinds) st
+statement_by_sound : (kinds : List TokenKind) (rd : ReadsExpression) → IsSoundReader kinds rd → (dn : ReadsDeclaration) → IsSound (IsDeclaration kinds) dn → (st : ReadsStatement) → IsSound (Whole kinds) st
     → (n : ℕ) (p r : Place) (y : Statement) (m : Mark) → mark_at kinds p ≡ m → read.statement_by kinds rd dn st n p m ≡ Gives y r → Whole kinds p r y
 statement_by_sound kinds rd ird dn id st is n p r y sign.CurlyOpens e h =
     block_statement_sound kinds (read.block kinds dn st n) (block_sound kinds dn id st is n) p r y (says kinds p sign.CurlyOpens e (λ z. cc)) h

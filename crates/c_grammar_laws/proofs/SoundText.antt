@@ -15,14 +15,15 @@ use Rattle.c_tree.specs.SpellsText.{IsExternal, AreExternals, parameters_of}
 use Rattle.c_grammar.specs.Kinds.{kind_at}
 use Rattle.c_grammar.specs.Marks as sign
 use Rattle.c_grammar.specs.Marks.{Mark, mark_at}
-use Rattle.c_grammar.specs.Reader.{Gives}
+use Rattle.c_grammar.specs.ReadExpressions.{Gives}
 use Rattle.c_grammar.specs.ReadTypes.{ListOf, separated_after, Specified, Specifies, Titled, Titles}
 use Rattle.c_grammar.specs.Readers.{specifiers, declarator}
 use Rattle.c_grammar.specs.ReadStatements.{initialiser, declared_after, declaration_end, names_with, declaration, block, statement}
 use Rattle.c_grammar.specs.ReadText as read
 use Rattle.c_grammar_laws.proofs.Steps.{then_gives, gives_as}
 use Rattle.c_grammar_laws.proofs.StatementSteps.{externals_none, externals_on}
-use Rattle.c_grammar_laws.proofs.SoundTypes.{says, curly_closes_gives, IsSound, SpecifiedAs, DecoratedAs, separated_after_sound}
+use Rattle.c_grammar_laws.proofs.Marked.{curly_closes_gives, says}
+use Rattle.c_grammar_laws.proofs.SoundTypes.{IsSound, SpecifiedAs, DecoratedAs, separated_after_sound}
 use Rattle.c_grammar_laws.proofs.SoundReaders.{declarator_sound}
 use Rattle.c_grammar_laws.proofs.SoundStatements.{declared_after_sound, names_sound, declaration_end_sound, specifiers_sound, items_sound}
 

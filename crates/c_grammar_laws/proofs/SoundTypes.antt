@@ -17,42 +17,14 @@ use Rattle.c_tree.specs.Spells.{IsExpression, IsBalanced, AreAttributes, AreQual
 use Rattle.c_grammar.specs.Kinds.{kind_at, start}
 use Rattle.c_grammar.specs.Marks as sign
 use Rattle.c_grammar.specs.Marks.{Bracketing, Opens, Closes, NoBracket, NoToken, bracketing, same_bracket, Mark, NoMark, mark, mark_at}
-use Rattle.c_grammar.specs.Reader.{Outcome, Gives, Reader}
+use Rattle.c_grammar.specs.ReadExpressions.{Outcome, Gives, ReadsExpression}
 use Rattle.c_grammar.specs.ReadTypes as read
 use Rattle.c_grammar.specs.ReadTypes.{where_opens, where_closes, where_square_closes, where_curly_closes, where_semicolon, Skips, balanced, balanced_by, attributes, attributes_by, ListOf, separated, separated_after, listed, listed_after, listed_comma, Specific, Plays, Specified, Specifies, Titled, Titles, ReadsSpecifiers, ReadsDeclarator, qualifiers, qualifiers_by, Takes, Taken, Perhaps, With, Without, Suffixes, ReadsPerhaps}
-use Rattle.c_grammar_laws.proofs.MarkLaws.{mark_sign, mark_means, Bracketed, bracketed, same_bracket_means}
+use Rattle.c_grammar_laws.proofs.MarkLaws.{Bracketed, bracketed, same_bracket_means}
 use Rattle.c_grammar_laws.proofs.TypeSteps.{balanced_none, balanced_on, attributes_none, attributes_on, separated_none, separated_on, listed_none, listed_on, qualifiers_none, qualifiers_on, lines_none, lines_on, further_none, further_on}
 use Rattle.c_grammar_laws.proofs.Steps.{then_gives, gives_as, if_gives}
 use Rattle.c_grammar_laws.proofs.Sound.{IsSoundReader}
-
--- ---- marks that come next
-
-pub opens_gives : {B : Type 0} (m : Mark) (o : Outcome B) (y : B) (r : Place) → where_opens m o ≡ Gives y r → (m ≡ sign.RoundOpens) × (o ≡ Gives y r)
-opens_gives sign.RoundOpens o y r h = (refl, h)
-opens_gives _ o y r h = cc
-
-pub closes_gives : {B : Type 0} (m : Mark) (o : Outcome B) (y : B) (r : Place) → where_closes m o ≡ Gives y r → (m ≡ sign.RoundCloses) × (o ≡ Gives y r)
-closes_gives sign.RoundCloses o y r h = (refl, h)
-closes_gives _ o y r h = cc
-
-pub square_closes_gives : {B : Type 0} (m : Mark) (o : Outcome B) (y : B) (r : Place) → where_square_closes m o ≡ Gives y r → (m ≡ sign.SquareCloses) × (o ≡ Gives y r)
-square_closes_gives sign.SquareCloses o y r h = (refl, h)
-square_closes_gives _ o y r h = cc
-
-pub curly_closes_gives : {B : Type 0} (m : Mark) (o : Outcome B) (y : B) (r : Place) → where_curly_closes m o ≡ Gives y r → (m ≡ sign.CurlyCloses) × (o ≡ Gives y r)
-curly_closes_gives sign.CurlyCloses o y r h = (refl, h)
-curly_closes_gives _ o y r h = cc
-
-pub semicolon_gives : {B : Type 0} (m : Mark) (o : Outcome B) (y : B) (r : Place) → where_semicolon m o ≡ Gives y r → (m ≡ sign.Semicolon) × (o ≡ Gives y r)
-semicolon_gives sign.Semicolon o y r h = (refl, h)
-semicolon_gives _ o y r h = cc
-
--- the token that a mark says
-abbrev pub Says : List TokenKind → Place → Mark → Type 0
-Says kinds p m = kind_at kinds p ≡ mark_sign m
-
-pub says : (kinds : List TokenKind) (p : Place) (m : Mark) → mark_at kinds p ≡ m → (m ≡ NoMark → ⊥) → Says kinds p m
-says kinds p m e some = mark_means (kind_at kinds p) m e some
+use Rattle.c_grammar_laws.proofs.Marked.{opens_gives, closes_gives, curly_closes_gives, semicolon_gives, says}
 
 -- ---- what has no meaning
 
@@ -202,7 +174,7 @@ qualifiers_sound kinds (suc n) p xs q h = qualifiers_by_sound kinds (qualifiers 
 
 -- ---- members of structs
 
-member_after_sound : (kinds : List TokenKind) (rd : Reader) → IsSoundReader kinds rd → (p q r : Place) (d : Titled) (x : Member) (m : Mark) → mark_at kinds q ≡ m → DecoratedAs kinds p q d
+member_after_sound : (kinds : List TokenKind) (rd : ReadsExpression) → IsSoundReader kinds rd → (p q r : Place) (d : Titled) (x : Member) (m : Mark) → mark_at kinds q ≡ m → DecoratedAs kinds p q d
     → read.member_after rd d q m ≡ Gives x r → IsMember kinds p r x
 member_after_sound kinds rd ird p q r (Titles name parameters inner) x sign.Colon e d h =
     let t = then_gives (rd 2 (next q)) _ x r h in
@@ -211,7 +183,7 @@ member_after_sound kinds rd ird p q r (Titles name parameters inner) x sign.Colo
 member_after_sound kinds rd ird p q r (Titles name parameters inner) x _ e d h =
     gives_as (λ y v. IsMember kinds p v y) (member_node.Plain inner) x q r h (grammar.plain_member p q name parameters inner d)
 
-member_by_sound : (kinds : List TokenKind) (rd : Reader) → IsSoundReader kinds rd → (dc : ReadsDeclarator) → IsSound (DecoratedAs kinds) dc → (p r : Place) (x : Member) (m : Mark)
+member_by_sound : (kinds : List TokenKind) (rd : ReadsExpression) → IsSoundReader kinds rd → (dc : ReadsDeclarator) → IsSound (DecoratedAs kinds) dc → (p r : Place) (x : Member) (m : Mark)
     → mark_at kinds p ≡ m → read.member_by kinds rd dc p m ≡ Gives x r → IsMember kinds p r x
 member_by_sound kinds rd ird dc idc p r x sign.Colon e h =
     let t = then_gives (rd 2 (next p)) _ x r h in
@@ -221,10 +193,10 @@ member_by_sound kinds rd ird dc idc p r x _ e h =
     let t = then_gives (dc p) (λ d q. read.member_after rd d q (mark_at kinds q)) x r h in
     member_after_sound kinds rd ird p t.1 r t.0 x (mark_at kinds t.1) refl (idc p t.0 t.1 t.2) t.3
 
-member_sound : (kinds : List TokenKind) (rd : Reader) → IsSoundReader kinds rd → (dc : ReadsDeclarator) → IsSound (DecoratedAs kinds) dc → IsSound (IsMember kinds) (read.member kinds rd dc)
+member_sound : (kinds : List TokenKind) (rd : ReadsExpression) → IsSoundReader kinds rd → (dc : ReadsDeclarator) → IsSound (DecoratedAs kinds) dc → IsSound (IsMember kinds) (read.member kinds rd dc)
 member_sound kinds rd ird dc idc p x q h = member_by_sound kinds rd ird dc idc p q x (mark_at kinds p) refl h
 
-pub members_sound : (kinds : List TokenKind) (rd : Reader) → IsSoundReader kinds rd → (dc : ReadsDeclarator) → IsSound (DecoratedAs kinds) dc → (n : ℕ)
+pub members_sound : (kinds : List TokenKind) (rd : ReadsExpression) → IsSoundReader kinds rd → (dc : ReadsDeclarator) → IsSound (DecoratedAs kinds) dc → (n : ℕ)
     → IsSound (AreMembers kinds) (separated kinds (read.member kinds rd dc) n)
 members_sound kinds rd ird dc idc n =
     separated_sound kinds (IsMember kinds) (AreMembers kinds) (λ p q x d. grammar.one_member p q x d) (λ p q r x xs d a e. grammar.more_members p q r x xs d a e)
@@ -255,7 +227,7 @@ lines_sound kinds sp isp members ims (suc n) p xs q h =
 
 -- ---- enumeration constants
 
-constant_after_sound : (kinds : List TokenKind) (rd : Reader) → IsSoundReader kinds rd → (p r : Place) (text : List ℕ) (x : EnumConstant) (m : Mark) → At kinds p (token.Name text)
+constant_after_sound : (kinds : List TokenKind) (rd : ReadsExpression) → IsSoundReader kinds rd → (p r : Place) (text : List ℕ) (x : EnumConstant) (m : Mark) → At kinds p (token.Name text)
     → mark_at kinds (next p) ≡ m → read.constant_after rd text p m ≡ Gives x r → IsEnumConstant kinds p r x
 constant_after_sound kinds rd ird p r text x sign.Equals a e h =
     let t = then_gives (rd 2 (next (next p))) _ x r h in
@@ -264,13 +236,13 @@ constant_after_sound kinds rd ird p r text x sign.Equals a e h =
 constant_after_sound kinds rd ird p r text x _ a e h =
     gives_as (λ y v. IsEnumConstant kinds p v y) (constant_node.Next text p.at) x (declare (next p) text false) r h (grammar.plain_constant p text a)
 
-constant_by_sound : (kinds : List TokenKind) (rd : Reader) → IsSoundReader kinds rd → (p r : Place) (x : EnumConstant) (m : Mark) → mark_at kinds p ≡ m
+constant_by_sound : (kinds : List TokenKind) (rd : ReadsExpression) → IsSoundReader kinds rd → (p r : Place) (x : EnumConstant) (m : Mark) → mark_at kinds p ≡ m
     → read.constant_by kinds rd p m ≡ Gives x r → IsEnumConstant kinds p r x
 constant_by_sound kinds rd ird p r x (sign.Name text) e h =
     constant_after_sound kinds rd ird p r text x (mark_at kinds (next p)) (says kinds p (sign.Name text) e (λ z. cc)) refl h
 constant_by_sound kinds rd ird p r x _ e h = cc
 
-pub constants_sound : (kinds : List TokenKind) (rd : Reader) → IsSoundReader kinds rd → (n : ℕ) → IsSound (AreEnumConstants kinds) (listed kinds (read.constant kinds rd) n)
+pub constants_sound : (kinds : List TokenKind) (rd : ReadsExpression) → IsSoundReader kinds rd → (n : ℕ) → IsSound (AreEnumConstants kinds) (listed kinds (read.constant kinds rd) n)
 constants_sound kinds rd ird n =
     listed_sound kinds (IsEnumConstant kinds) (AreEnumConstants kinds) (λ p q x d. grammar.one_constant p q x d) (λ p q x d a. grammar.last_constant p q x d a)
     (λ p q r x xs d a e. grammar.more_constants p q r x xs d a e) (read.constant kinds rd) (λ p x q h. constant_by_sound kinds rd ird p q x (mark_at kinds p) refl h) n

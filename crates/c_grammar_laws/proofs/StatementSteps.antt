@@ -4,7 +4,7 @@ use Rattle.c_tokens.specs.declared.token.TokenKind.{TokenKind}
 use Rattle.c_tree.specs.Places.{Place, next, enter}
 use Rattle.c_grammar.specs.Kinds.{kind_at}
 use Rattle.c_grammar.specs.Marks.{mark_at}
-use Rattle.c_grammar.specs.Reader.{Refuses, and_then, Reader}
+use Rattle.c_grammar.specs.ReadExpressions.{Refuses, and_then, ReadsExpression}
 use Rattle.c_grammar.specs.ReadTypes.{listed}
 use Rattle.c_grammar.specs.Readers.{read}
 use Rattle.c_grammar.specs.ReadStatements.{initialiser, initialiser_by, ReadsStatement, ReadsDeclaration, test, chain, chain_of, block, block_by, statement, statement_by, declaration}
@@ -19,11 +19,11 @@ pub initialiser_on : (kinds : List TokenKind) (n : ℕ) (p : Place)
 unfolding initialiser
 initialiser_on kinds n p = refl
 
-pub chain_none : (kinds : List TokenKind) (rd : Reader) (st : ReadsStatement) (p : Place) → chain kinds rd st zero p ≡ Refuses
+pub chain_none : (kinds : List TokenKind) (rd : ReadsExpression) (st : ReadsStatement) (p : Place) → chain kinds rd st zero p ≡ Refuses
 unfolding chain
 chain_none kinds rd st p = refl
 
-pub chain_on : (kinds : List TokenKind) (rd : Reader) (st : ReadsStatement) (n : ℕ) (p : Place)
+pub chain_on : (kinds : List TokenKind) (rd : ReadsExpression) (st : ReadsStatement) (n : ℕ) (p : Place)
     → chain kinds rd st (suc n) p ≡ and_then (test kinds rd (enter (next p))) (chain_of kinds st (chain kinds rd st n) p)
 unfolding chain
 chain_on kinds rd st n p = refl

@@ -6,9 +6,8 @@ use Rattle.c_tokens.specs.declared.token.TokenKind.{TokenKind}
 use Rattle.c_tree.specs.declared.expression.Expression.{Expression}
 use Rattle.c_tree.specs.Places.{Place}
 use Rattle.c_grammar.specs.declared.kinds.Suffix.{Suffix}
-use Rattle.c_grammar.specs.declared.kinds.Suffix.TheVariants.{ClosesRound, ClosesSquare, Colons}
 use Rattle.c_grammar.specs.Kinds.{kind_at, suffix, needs, below, goes_on, Prefix, Names, prefix}
-use Rattle.c_grammar.specs.Reader.{Outcome, Gives, Refuses, and_then, where_round, where_square, where_colon, where_name, Reader, items, items_after, suffix_taken, prefix_taken}
+use Rattle.c_grammar.specs.ReadExpressions.{Outcome, Gives, Refuses, and_then, where_name, ReadsExpression, items, items_after, suffix_taken, prefix_taken}
 use Rattle.c_grammar.specs.Readers.{read, more, types}
 
 -- ---- outcomes
@@ -25,18 +24,6 @@ gives_as P x y q r h d =
     let a : x ≡ y = cc in
     let b : q ≡ r = cc in
     subst (λ z. P z r) a (subst (λ s. P x s) b d)
-
-pub round_gives : {B : Type 0} (s : Suffix) (o : Outcome B) (y : B) (r : Place) → where_round s o ≡ Gives y r → (s ≡ ClosesRound) × (o ≡ Gives y r)
-round_gives ClosesRound o y r h = (refl, h)
-round_gives _ o y r h = cc
-
-pub square_gives : {B : Type 0} (s : Suffix) (o : Outcome B) (y : B) (r : Place) → where_square s o ≡ Gives y r → (s ≡ ClosesSquare) × (o ≡ Gives y r)
-square_gives ClosesSquare o y r h = (refl, h)
-square_gives _ o y r h = cc
-
-pub colon_gives : {B : Type 0} (s : Suffix) (o : Outcome B) (y : B) (r : Place) → where_colon s o ≡ Gives y r → (s ≡ Colons) × (o ≡ Gives y r)
-colon_gives Colons o y r h = (refl, h)
-colon_gives _ o y r h = cc
 
 abbrev pub NameThen : {B : Type 0} → Prefix → (List ℕ → Outcome B) → B → Place → Type 0
 NameThen s f y r = (text : List ℕ) × (s ≡ Names text) × (f text ≡ Gives y r)
@@ -118,11 +105,11 @@ pub read_on : (kinds : List TokenKind) (n least : ℕ) (p : Place)
 unfolding read
 read_on kinds n least p = refl
 
-pub items_none : (kinds : List TokenKind) (rd : Reader) (p : Place) → items kinds rd zero p ≡ Refuses
+pub items_none : (kinds : List TokenKind) (rd : ReadsExpression) (p : Place) → items kinds rd zero p ≡ Refuses
 unfolding items
 items_none kinds rd p = refl
 
-pub items_on : (kinds : List TokenKind) (rd : Reader) (n : ℕ) (p : Place)
+pub items_on : (kinds : List TokenKind) (rd : ReadsExpression) (n : ℕ) (p : Place)
     → items kinds rd (suc n) p ≡ and_then (rd 1 p) (λ x q. items_after (items kinds rd n) x q (suffix (kind_at kinds q)))
 unfolding items
 items_on kinds rd n p = refl

@@ -10,7 +10,7 @@ use Rattle.c_tree.specs.Places.{Place}
 use Rattle.c_tree.specs.Signs.{Bracket}
 use Rattle.c_grammar.specs.Kinds.{kind_at}
 use Rattle.c_grammar.specs.Marks.{bracketing, mark_at}
-use Rattle.c_grammar.specs.Reader.{Outcome, Refuses, and_then, Reader}
+use Rattle.c_grammar.specs.ReadExpressions.{Outcome, Refuses, and_then, ReadsExpression}
 use Rattle.c_grammar.specs.ReadTypes.{balanced, balanced_by, attributes, attributes_by, ListOf, separated, separated_after, listed, listed_after, Titled, ReadsSpecifiers, qualifiers, qualifiers_by, lines, lines_by, specifier_by, further, further_after, suffixes, suffixes_by, Takes, parameters, parameters_after, arrays, arrays_by, unnamed, unnamed_by, all_specifiers, perhaps_with}
 use Rattle.c_grammar.specs.Readers.{struct_with, enum_with, read, specifiers, perhaps}
 
@@ -77,11 +77,11 @@ pub further_on : (kinds : List TokenKind) (struct : ListOf MemberLine) (enum : L
 unfolding further
 further_on kinds struct enum n typed p = refl
 
-pub suffixes_none : (kinds : List TokenKind) (rd : Reader) (list : Place → Outcome Takes) (d : Titled) (q : Place) → suffixes kinds rd list zero d q ≡ Refuses
+pub suffixes_none : (kinds : List TokenKind) (rd : ReadsExpression) (list : Place → Outcome Takes) (d : Titled) (q : Place) → suffixes kinds rd list zero d q ≡ Refuses
 unfolding suffixes
 suffixes_none kinds rd list d q = refl
 
-pub suffixes_on : (kinds : List TokenKind) (rd : Reader) (list : Place → Outcome Takes) (n : ℕ) (d : Titled) (q : Place)
+pub suffixes_on : (kinds : List TokenKind) (rd : ReadsExpression) (list : Place → Outcome Takes) (n : ℕ) (d : Titled) (q : Place)
     → suffixes kinds rd list (suc n) d q ≡ suffixes_by kinds rd list (suffixes kinds rd list n) d q (mark_at kinds q)
 unfolding suffixes
 suffixes_on kinds rd list n d q = refl
@@ -95,20 +95,20 @@ pub parameters_on : (kinds : List TokenKind) (one : Place → Outcome Parameter)
 unfolding parameters
 parameters_on kinds one n p = refl
 
-pub arrays_none : (kinds : List TokenKind) (rd : Reader) (inner : Declarator) (q : Place) → arrays kinds rd zero inner q ≡ Refuses
+pub arrays_none : (kinds : List TokenKind) (rd : ReadsExpression) (inner : Declarator) (q : Place) → arrays kinds rd zero inner q ≡ Refuses
 unfolding arrays
 arrays_none kinds rd inner q = refl
 
-pub arrays_on : (kinds : List TokenKind) (rd : Reader) (n : ℕ) (inner : Declarator) (q : Place)
+pub arrays_on : (kinds : List TokenKind) (rd : ReadsExpression) (n : ℕ) (inner : Declarator) (q : Place)
     → arrays kinds rd (suc n) inner q ≡ arrays_by kinds rd (arrays kinds rd n) inner q (mark_at kinds q)
 unfolding arrays
 arrays_on kinds rd n inner q = refl
 
-pub unnamed_none : (kinds : List TokenKind) (rd : Reader) (p : Place) → unnamed kinds rd zero p ≡ Refuses
+pub unnamed_none : (kinds : List TokenKind) (rd : ReadsExpression) (p : Place) → unnamed kinds rd zero p ≡ Refuses
 unfolding unnamed
 unnamed_none kinds rd p = refl
 
-pub unnamed_on : (kinds : List TokenKind) (rd : Reader) (n : ℕ) (p : Place)
+pub unnamed_on : (kinds : List TokenKind) (rd : ReadsExpression) (n : ℕ) (p : Place)
     → unnamed kinds rd (suc n) p ≡ unnamed_by (arrays kinds rd (suc n)) (qualifiers kinds n) (unnamed kinds rd n) p (mark_at kinds p)
 unfolding unnamed
 unnamed_on kinds rd n p = refl

@@ -1,5 +1,7 @@
 -- Laws of the grammar: tokens spell one tree at most, part by part, where what comes next can't go on with the part.
-use Rattle.std.specs.Prelude.{◌≡◌, ℕ, ◌≤◌, Bool, true, false, List, Option, ◌↔◌, ◌⊎◌}
+use Rattle.std.specs.Prelude.{◌≡◌, ℕ, ◌<◌, ◌≤◌, Bool, true, false, List, length, Option, ◌↔◌, ◌⊎◌}
+use Rattle.std.specs.List.{All}
+use Rattle.std.specs.List.Sorted.{IsStrictlyIncreasing}
 use Rattle.c_tokens.specs.declared.token.TokenKind.{TokenKind}
 use Rattle.c_tokens.specs.declared.token.TokenKind.TheVariants as token
 use Rattle.c_tokens.specs.declared.token.Token.{Token}
@@ -13,13 +15,14 @@ use Rattle.c_tree.specs.declared.declaration.External.{External}
 use Rattle.c_tree.specs.declared.declaration.Tree.{Tree}
 use Rattle.c_tree.specs.declared.statement.Statement.{Statement}
 use Rattle.c_tree.specs.declared.scope.Entry.{Entry}
+use Rattle.c_tree.specs.OwnTokens.{expression_tokens, declaration_tokens, statement_tokens, external_tokens, own_tokens}
 use Rattle.c_tree.specs.Places.{Place, At}
 use Rattle.c_tree.specs.Spells.{IsExpression, IsTypeName, AreSpecifiers, IsDecorated}
 use Rattle.c_tree.specs.SpellsStatements.{IsInitialiser, IsDeclaration, IsStatement}
-use Rattle.c_tree.specs.SpellsText.{IsExternal, Spells, kinds_of}
+use Rattle.c_tree.specs.SpellsText.{IsExternal, Spells, kinds_of, lines_of}
 use Rattle.c_grammar.specs.Kinds.{kind_at, suffix, below}
 use Rattle.c_grammar.specs.Marks.{mark_at, extends_declarator, follows_specifiers}
-use Rattle.c_grammar.specs.Reader.{Gives, Refuses}
+use Rattle.c_grammar.specs.ReadExpressions.{Gives, Refuses}
 use Rattle.c_grammar.specs.ReadText.{text}
 
 -- the next token goes on with no expression of this level
@@ -71,9 +74,31 @@ OneExternal = (kinds : List TokenKind) (p q r : Place) (x y : External) → IsEx
 abbrev pub OneTree : Type 0
 OneTree = (tokens : List Token) (x y : Tree) → Spells tokens x → Spells tokens y → x ≡ y
 
--- the reader of texts reads this tree
+-- these numbers rise, from one number to before another: no two of them are equal
+pub record RiseWithin (from to : ℕ) (numbers : List ℕ) : Type 0 where
+  pub increasing : IsStrictlyIncreasing numbers
+  pub within : All (λ n. (from ≤ n) × (n < to)) numbers
+
+-- the own tokens of the nodes of a part rise, within the tokens that spell it
+abbrev pub ExpressionTokensRise : Type 0
+ExpressionTokensRise = (kinds : List TokenKind) (k : ℕ) (p q : Place) (x : Expression) → IsExpression kinds k p q x → RiseWithin p.at q.at (expression_tokens x)
+
+abbrev pub DeclarationTokensRise : Type 0
+DeclarationTokensRise = (kinds : List TokenKind) (p q : Place) (x : Declaration) → IsDeclaration kinds p q x → RiseWithin p.at q.at (declaration_tokens x)
+
+abbrev pub StatementTokensRise : Type 0
+StatementTokensRise = (kinds : List TokenKind) (ends_open : Bool) (p q : Place) (x : Statement) → IsStatement kinds ends_open p q x → RiseWithin p.at q.at (statement_tokens x)
+
+abbrev pub ExternalTokensRise : Type 0
+ExternalTokensRise = (kinds : List TokenKind) (p q : Place) (x : External) → IsExternal kinds p q x → RiseWithin p.at q.at (external_tokens x)
+
+-- those of a whole text
+abbrev pub OwnTokensRise : Type 0
+OwnTokensRise = (tokens : List Token) (tree : Tree) → Spells tokens tree → RiseWithin 0 (length tokens) (own_tokens tree)
+
+-- the reader of texts reads this tree, which has the tokens' lines
 abbrev pub IsRead : List Token → Tree → Type 0
-IsRead tokens tree = (q : Place) × (text (kinds_of tokens) ≡ Gives tree.externals q)
+IsRead tokens tree = ((q : Place) × (text (kinds_of tokens) ≡ Gives tree.externals q)) × (tree.lines ≡ lines_of tokens)
 
 -- what is spelled is what is read
 abbrev pub ReadsWhatIsSpelled : Type 0

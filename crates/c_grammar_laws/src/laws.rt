@@ -1,6 +1,9 @@
 //! Laws of the grammar. Each function's contract is one, and the function does nothing.
 
 ghost use Rattle.c_grammar_laws.specs.Laws.{
+  DeclarationTokensRise,
+  ExpressionTokensRise,
+  ExternalTokensRise,
   OneDeclaration,
   OneDeclarator,
   OneExpression,
@@ -10,8 +13,10 @@ ghost use Rattle.c_grammar_laws.specs.Laws.{
   OneStatement,
   OneTree,
   OneTypeName,
+  OwnTokensRise,
   ReadsWhatIsSpelled,
   RefusesTheRest,
+  StatementTokensRise,
 };
 
 /// Tokens spell one expression of a level, where the next token goes on with none, and one type name before a `)`.
@@ -40,4 +45,14 @@ pub fn one_tree()
     ensures one { OneTree }
     ensures read { ReadsWhatIsSpelled }
     ensures refused { RefusesTheRest }
+{}
+
+/// The own tokens of a text's nodes rise in the order of the text: no two are equal, and those of a part lie within the
+/// tokens that spell it.
+pub fn own_tokens()
+    ensures expression { ExpressionTokensRise }
+    ensures declaration { DeclarationTokensRise }
+    ensures statement { StatementTokensRise }
+    ensures external { ExternalTokensRise }
+    ensures text { OwnTokensRise }
 {}

@@ -76,7 +76,6 @@ pub worked_assignments : WorkedAssignments
 worked_assignments = record {
   array_is_not_written = refl;
   array_is_not_stepped = refl;
-  rows_are_no_target = refl;
   const_is_not_written = refl;
   number_is_not_written = refl;
   sum_does_not_fit = refl;

@@ -11,17 +11,21 @@ use Rattle.c_kinds.specs.declared.types.CType.{CType}
 use Rattle.c_kinds.specs.declared.typed.Typed.{Typed}
 use Rattle.c_kinds.specs.Types.{shape_of, is_rows, is_scalar, is_integer}
 use Rattle.c_kinds.specs.Layouts.{Layout, size_in_bytes}
-use Rattle.c_kinds.specs.Values.{Answer, Gives, Breaks, Nothing, unless, and_then, value}
-use Rattle.c_kinds.specs.Operands.{Family, OnIntegers, Additive, Shift, Relational, Equality, Logical, family, needs_cells, pointer_and_integer, two_pointers, integer_and_pointer, binary_by, arithmetic, indirection, unary_answer, size_answer, sizeof_type_answer}
+use Rattle.c_kinds.specs.declared.answer.Answer.{Answer}
+use Rattle.c_kinds.specs.declared.answer.Answer.TheVariants.{Gives, Breaks, Nothing}
+use Rattle.c_kinds.specs.Values.{unless, and_then, value}
+use Rattle.c_kinds.specs.declared.family.Family.{Family}
+use Rattle.c_kinds.specs.declared.family.Family.TheVariants.{OnIntegers, Additive, Shift, Relational, Equality, Logical}
+use Rattle.c_kinds.specs.Operands.{family, needs_cells, pointer_and_integer, two_pointers, integer_and_pointer, binary_by, arithmetic, indirection, unary_answer, size_answer, sizeof_type_answer}
 use Rattle.c_kinds.specs.Casts.{cast_by, breaks_star, plain_operator, assigned, assign_answer, steps, arms_type, conditional_by}
 use Rattle.c_kinds.specs.Elements.{subscript_by}
 use Rattle.c_kinds.specs.Laws.{Speaks, OperatorsSpeak}
 
-speaks_unless : (b : Bool) (rule at : ℕ) (x : Answer) → Speaks x → Speaks (unless b rule at x)
+pub speaks_unless : (b : Bool) (rule at : ℕ) (x : Answer) → Speaks x → Speaks (unless b rule at x)
 speaks_unless true rule at x e = refl
 speaks_unless false rule at x e = e
 
-speaks_then : (x : Answer) (f : Typed → Answer) → Speaks x → ((v : Typed) → Speaks (f v)) → Speaks (and_then x f)
+pub speaks_then : (x : Answer) (f : Typed → Answer) → Speaks x → ((v : Typed) → Speaks (f v)) → Speaks (and_then x f)
 speaks_then (Gives v) f e h = h v
 speaks_then (Breaks rule at) f e h = refl
 speaks_then Nothing f e h = e
@@ -102,6 +106,7 @@ of_sizeof_type l at None t = of_size l at at (size_in_bytes l.model t)
 of_cast_by : (s t : Shape) (at : ℕ) (u : CType) (v : Typed) → Speaks (cast_by s t at u v)
 of_cast_by (shape.Array n) _ at u v = refl
 of_cast_by (shape.Function n) _ at u v = refl
+of_cast_by (shape.Struct n) shape.Void at u v = refl
 of_cast_by (shape.Struct n) _ at u v = refl
 of_cast_by _ (shape.Struct n) at u v = refl
 of_cast_by shape.Void _ at u v = refl
@@ -121,7 +126,7 @@ of_assigned l (Some operator) at target v = speaks_then (value l target) _ (of_v
 
 of_assign : (l : Layout) (operator : AssignOperator) (at : ℕ) (target v : Typed) → Speaks (assign_answer l operator at target v)
 of_assign l operator at target v =
-    speaks_unless (is_rows target.ctype) 9 target.named_at _ (speaks_then (assigned l (plain_operator operator) at target v) _ (of_assigned l (plain_operator operator) at target v) (λ made. search speaks_unless))
+    speaks_then (assigned l (plain_operator operator) at target v) _ (of_assigned l (plain_operator operator) at target v) (λ made. search speaks_unless)
 
 of_steps : (l : Layout) (at : ℕ) (s : Shape) (x : Typed) (a : Answer) → Speaks a → Speaks (steps l at s x a)
 of_steps l at (shape.Integer k) x a e = e

@@ -16,7 +16,9 @@ use Rattle.c_kinds.specs.Types.{integer, void, shape_of, inner, pointer_to, cons
 use Rattle.c_kinds.specs.Integers.{usual, converted}
 use Rattle.c_kinds.specs.Constants.{of_one, chosen_integer, chosen_pointer}
 use Rattle.c_kinds.specs.Layouts.{Layout, has_const}
-use Rattle.c_kinds.specs.Values.{Answer, Gives, Breaks, and_then, unless, result, value, is_void_pointer}
+use Rattle.c_kinds.specs.declared.answer.Answer.{Answer}
+use Rattle.c_kinds.specs.declared.answer.Answer.TheVariants.{Gives, Breaks}
+use Rattle.c_kinds.specs.Values.{and_then, unless, result, value, is_void_pointer}
 use Rattle.c_kinds.specs.Operands.{needs_cells, binary_answer}
 
 -- ---- casts (6.5.4)
@@ -48,6 +50,7 @@ cast_if allowed at t v = unless (not allowed) 15 at (Gives (cast_result at t v))
 abbrev pub cast_by : Shape → Shape → ℕ → CType → Typed → Answer
 cast_by (shape.Array n) _ at t v = Breaks 12 at
 cast_by (shape.Function n) _ at t v = Breaks 12 at
+cast_by (shape.Struct n) shape.Void at t v = Breaks 12 at
 cast_by (shape.Struct n) _ at t v = Breaks 15 at
 cast_by _ (shape.Struct n) at t v = Breaks 15 at
 cast_by shape.Void _ at t v = cast_if true at t v
@@ -92,9 +95,8 @@ assigned l (Some operator) at target v = and_then (value l target) (λ old. bina
 
 -- of a target and a value: first the operator's operands, then whether the target may be written
 abbrev pub assign_answer : Layout → AssignOperator → ℕ → Typed → Typed → Answer
-assign_answer l operator at target v = unless (is_rows target.ctype) 9 target.named_at
-    (and_then (assigned l (plain_operator operator) at target v) (λ made.
-    unless (not (is_writable l target)) 14 at (Gives (result (unqualified target.ctype) Varies at v.ends_at))))
+assign_answer l operator at target v = and_then (assigned l (plain_operator operator) at target v) (λ made.
+    unless (not (is_writable l target)) 14 at (Gives (result (unqualified target.ctype) Varies at v.ends_at)))
 
 -- whether a value may be assigned to an object of the type (6.5.16.1p1)
 abbrev pub fits_by : Shape → Shape → CType → Typed → Bool

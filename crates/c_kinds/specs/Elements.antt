@@ -9,7 +9,9 @@ use Rattle.c_kinds.specs.declared.typed.Typed.{Typed}
 use Rattle.c_kinds.specs.Types.{shape_of, inner, is_integer, is_pointer, const_of, also_const}
 use Rattle.c_kinds.specs.Addresses.{moved, followed, further_in, element_of}
 use Rattle.c_kinds.specs.Layouts.{Layout, struct_is_complete, members_by, member_in}
-use Rattle.c_kinds.specs.Values.{Answer, Gives, Breaks, Nothing, unless, place}
+use Rattle.c_kinds.specs.declared.answer.Answer.{Answer}
+use Rattle.c_kinds.specs.declared.answer.Answer.TheVariants.{Gives, Breaks, Nothing}
+use Rattle.c_kinds.specs.Values.{unless, place}
 use Rattle.c_kinds.specs.Operands.{needs_cells}
 
 -- ---- subscripts (6.5.2.1), at the `[`

@@ -78,9 +78,10 @@ abbrev pub unsigned_long_of : DataModel → IntType
 unsigned_long_of Lp64 = ULong
 unsigned_long_of Ilp32 = ULong32
 
--- the type of `sizeof` (6.5.3.4p5): unsigned long
+-- the type of `sizeof` (6.5.3.4p5): what `size_t` is, unsigned long or, where that has 32 bits, unsigned int
 abbrev pub size_type : DataModel → IntType
-size_type model = unsigned_long_of model
+size_type Lp64 = ULong
+size_type Ilp32 = UInt
 
 abbrev pub pointer_bytes : DataModel → ℕ
 pointer_bytes Lp64 = 8

@@ -6,7 +6,9 @@ use Rattle.c_tree.specs.declared.expression.AssignOperator.{AssignOperator}
 use Rattle.c_kinds.specs.declared.types.CType.{CType}
 use Rattle.c_kinds.specs.declared.typed.Typed.{Typed}
 use Rattle.c_kinds.specs.Layouts.{Layout}
-use Rattle.c_kinds.specs.Values.{Answer, Nothing, value}
+use Rattle.c_kinds.specs.declared.answer.Answer.{Answer}
+use Rattle.c_kinds.specs.declared.answer.Answer.TheVariants.{Nothing}
+use Rattle.c_kinds.specs.Values.{value}
 use Rattle.c_kinds.specs.Operands.{binary_answer, unary_answer, address_answer, sizeof_answer, sizeof_type_answer}
 use Rattle.c_kinds.specs.Casts.{cast_answer, assign_answer, step_answer, conditional_answer, comma_answer}
 use Rattle.c_kinds.specs.Elements.{subscript_answer}

@@ -7,6 +7,8 @@ use Rattle.c_tree.specs.declared.expression.BinaryOperator.{BinaryOperator}
 use Rattle.c_tree.specs.declared.expression.BinaryOperator.TheVariants as binary
 use Rattle.c_tree.specs.declared.expression.UnaryOperator.{UnaryOperator}
 use Rattle.c_tree.specs.declared.expression.UnaryOperator.TheVariants as unary
+use Rattle.c_kinds.specs.declared.family.Family.{Family}
+use Rattle.c_kinds.specs.declared.family.Family.TheVariants.{OnIntegers, Additive, Shift, Relational, Equality, Logical}
 use Rattle.c_kinds.specs.declared.types.Shape.{Shape}
 use Rattle.c_kinds.specs.declared.types.Shape.TheVariants as shape
 use Rattle.c_kinds.specs.declared.types.CType.{CType}
@@ -18,23 +20,11 @@ use Rattle.c_kinds.specs.Integers.{promoted, usual, size_type}
 use Rattle.c_kinds.specs.Constants.{of_one, binary_value, unary_operation}
 use Rattle.c_kinds.specs.Addresses.{moved, followed}
 use Rattle.c_kinds.specs.Layouts.{Layout, size_in_bytes, is_incomplete}
-use Rattle.c_kinds.specs.Values.{Answer, Gives, Breaks, unless, result, place}
+use Rattle.c_kinds.specs.declared.answer.Answer.{Answer}
+use Rattle.c_kinds.specs.declared.answer.Answer.TheVariants.{Gives, Breaks}
+use Rattle.c_kinds.specs.Values.{unless, result, place}
 
 -- ---- families of operators: what the standard says of one holds for all of a family
-
-pub data Family : Type 0 where
-  -- `* / %`, and `& ^ |` (6.5.5, 6.5.10 to 6.5.12)
-  OnIntegers : Family
-  -- 6.5.6
-  Additive : Family
-  -- 6.5.7
-  Shift : Family
-  -- 6.5.8
-  Relational : Family
-  -- 6.5.9
-  Equality : Family
-  -- 6.5.13, 6.5.14
-  Logical : Family
 
 abbrev pub family : BinaryOperator → Family
 family binary.Multiply = OnIntegers

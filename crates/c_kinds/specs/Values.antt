@@ -4,15 +4,11 @@ use Rattle.c_kinds.specs.declared.types.CType.{CType}
 use Rattle.c_kinds.specs.declared.typed.Fixed.{Fixed}
 use Rattle.c_kinds.specs.declared.typed.Fixed.TheVariants.{Varies}
 use Rattle.c_kinds.specs.declared.typed.Typed.{Typed}
+use Rattle.c_kinds.specs.declared.answer.Answer.{Answer}
+use Rattle.c_kinds.specs.declared.answer.Answer.TheVariants.{Gives, Breaks, Nothing}
 use Rattle.c_kinds.specs.Types.{inner, pointer_to, unqualified, is_integer, is_array, is_rows, same, void}
 use Rattle.c_kinds.specs.Constants.{is_zero}
 use Rattle.c_kinds.specs.Layouts.{Layout, is_incomplete}
-
--- an expression with its type; or a rule that leaves it without one, and where it is broken; or nothing, where a part has no type
-pub data Answer : Type 0 where
-  Gives : Typed → Answer
-  Breaks : ℕ → ℕ → Answer
-  Nothing : Answer
 
 -- goes on with what an operand gives
 abbrev pub and_then : Answer → (Typed → Answer) → Answer

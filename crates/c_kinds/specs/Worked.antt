@@ -18,7 +18,9 @@ use Rattle.c_kinds.specs.Types.{integer, void, pointer_to, derived_from, plain, 
 use Rattle.c_kinds.specs.Integers.{promoted, usual, converted}
 use Rattle.c_kinds.specs.Layouts.{Layout, size_in_bytes, cell_count, cell_types, is_incomplete}
 use Rattle.c_kinds.specs.Constants.{binary_value, chosen_integer, chosen_pointer}
-use Rattle.c_kinds.specs.Values.{Answer, Gives, Breaks, value, result, place, and_then}
+use Rattle.c_kinds.specs.declared.answer.Answer.{Answer}
+use Rattle.c_kinds.specs.declared.answer.Answer.TheVariants.{Gives, Breaks}
+use Rattle.c_kinds.specs.Values.{value, result, place, and_then}
 use Rattle.c_kinds.specs.Operands.{binary_answer, unary_answer, address_answer, sizeof_answer, sizeof_type_answer}
 use Rattle.c_kinds.specs.Casts.{cast_answer, assign_answer, assigns_misfit, step_answer, conditional_answer, fits}
 use Rattle.c_kinds.specs.Elements.{subscript_answer, member_answer, pointed_member_answer}
@@ -165,7 +167,6 @@ pub record WorkedOperators : Type 0 where
 pub record WorkedAssignments : Type 0 where
   pub array_is_not_written : assign_answer some_layout assign.Plain 21 (variable (array_of 3 int) 20) (number 1 22) ≡ Breaks 14 21
   pub array_is_not_stepped : step_answer some_layout 21 21 (variable (array_of 3 int) 20) ≡ Breaks 14 21
-  pub rows_are_no_target : assign_answer some_layout assign.Add 21 (variable (array_of 2 (array_of 3 int)) 20) (number 1 22) ≡ Breaks 9 20
   pub const_is_not_written : assign_answer some_layout assign.Plain 21 (variable const_int 20) (number 1 22) ≡ Breaks 14 21
   pub number_is_not_written : assign_answer some_layout assign.Plain 21 (number 1 20) (result (pointer_to int) constant.Varies 22 22) ≡ Breaks 14 21
   -- `x += p` takes the operands of +, and its result doesn't fit x

@@ -1,81 +1,42 @@
--- An execution has one end, and that of a straight program doesn't depend on the inputs.
-use Rattle.std.proofs.Common.{◌≡◌, ℕ, suc, zero, Bool, true, false, List, [], ◌∷◌, ℤ, Option, Some, None, refl, sym, ◌∙◌, subst, cond, ap}
-use Rattle.c_model.specs.declared.checks.CheckKind.TheVariants.{Assertion}
-use Rattle.c_model.specs.declared.program.BlockItem.{BlockItem}
-use Rattle.c_model.specs.declared.program.BlockItem.TheVariants.{Declare, Assign, Assert}
-use Rattle.c_model.specs.declared.program.Program.{Program}
-use Rattle.c_model.specs.Machine.{Item, Rest, Work, Tests, Value, Adds, Configuration, Answer, Next, Broken, Ended, IsEnd, store_at, work_step, item_step, step_at, step, place_of, goes_on, after, start, Comes, Safe}
+-- An execution has one end, and where it takes no input that end is the same on all inputs.
+use Rattle.std.proofs.Common.{◌≡◌, ℕ, suc, zero, List, [], sym, ◌∙◌, subst, cond}
+use Rattle.c_rules.specs.declared.program.Program.{Program}
+use Rattle.c_model.specs.Configurations.{State, Configuration, Goes, Unmet, Forks, Takes, Unassumed, Stops, Answer, Next, Broken, Ended, Assumed, NeedsInput}
+use Rattle.c_model.specs.Steps.{answered, move_of, step, start}
+use Rattle.c_model.specs.Executions.{IsEnd, goes_on, after, start_on, Comes}
 
-one_end : (n m : ℕ) (c : Configuration) (a b : Answer) → IsEnd a → IsEnd b → after n c ≡ a → after m c ≡ b → a ≡ b
-one_end zero m c a b la lb ea eb = absurd (subst IsEnd (sym ea) la)
-one_end (suc n) zero c a b la lb ea eb = absurd (subst IsEnd (sym eb) lb)
-one_end (suc n) (suc m) c a b la lb ea eb =
-    elim (step c) as (λ s. goes_on (λ d. after n d) s ≡ a → goes_on (λ d. after m d) s ≡ b → a ≡ b) [
-      | Next d ↦ λ ea eb. one_end n m d a b la lb ea eb
+one_end : (p : Program) (n m : ℕ) (c : Configuration) (a b : Answer) → IsEnd a → IsEnd b → after p n c ≡ a → after p m c ≡ b → a ≡ b
+one_end p zero m c a b la lb ea eb = absurd (subst IsEnd (sym ea) la)
+one_end p (suc n) zero c a b la lb ea eb = absurd (subst IsEnd (sym eb) lb)
+one_end p (suc n) (suc m) c a b la lb ea eb =
+    elim (step p c) as (λ s. goes_on (λ d. after p n d) s ≡ a → goes_on (λ d. after p m d) s ≡ b → a ≡ b) [
+      | Next d ↦ λ ea eb. one_end p n m d a b la lb ea eb
       | Broken check line ↦ λ ea eb. sym ea ∙ eb
       | Ended ↦ λ ea eb. sym ea ∙ eb
+      | Assumed ↦ λ ea eb. sym ea ∙ eb
+      | NeedsInput ↦ λ ea eb. sym ea ∙ eb
     ] ea eb
 
-pub comes_to_one : (program : Program) (inputs : List ℕ) (a b : Answer) → IsEnd a → IsEnd b → Comes program inputs a → Comes program inputs b → a ≡ b
-comes_to_one program inputs a b la lb ca cb = one_end ca.0 cb.0 (start program inputs) a b la lb ca.1 cb.1
+pub comes_to_one : (p : Program) (inputs : List ℕ) (a b : Answer) → IsEnd a → IsEnd b → Comes p inputs a → Comes p inputs b → a ≡ b
+comes_to_one p inputs a b la lb ca cb = one_end p ca.0 cb.0 (start_on p inputs) a b la lb ca.1 cb.1
 
--- the configuration with other inputs
-abbrev swap : List ℕ → Configuration → Configuration
-swap w c = record c { inputs = w }
+-- ---- a run that takes no input
 
-abbrev swapped : List ℕ → Answer → Answer
-swapped w (Next c) = Next (swap w c)
-swapped w (Broken check line) = Broken check line
-swapped w Ended = Ended
+-- the state with these inputs, none of which was taken
+abbrev fresh : State → List ℕ → Configuration
+fresh c inputs = record { state = c; inputs = record { given = inputs; taken = [] } }
 
-asserts : (w : List ℕ) (b : Bool) (line : ℕ) (c : Configuration) → cond b (Next (swap w c)) (Broken Assertion line) ≡ swapped w (cond b (Next c) (Broken Assertion line))
-asserts w true line c = refl
-asserts w false line c = refl
+alike : (p : Program) (n : ℕ) (c : State) (inputs : List ℕ) (a : Answer) → IsEnd a → (a ≡ NeedsInput → ⊥) → after p n (fresh c []) ≡ a → after p n (fresh c inputs) ≡ a
+alike p zero c inputs a la na e = absurd (subst IsEnd (sym e) la)
+alike p (suc n) c inputs a la na e =
+    elim (move_of p c) as (λ m. goes_on (λ d. after p n d) (answered p m (fresh c []).inputs) ≡ a → goes_on (λ d. after p n d) (answered p m (fresh c inputs).inputs) ≡ a) [
+      | Goes next ↦ λ e. alike p n next inputs a la na e
+      | Unmet kind at next ↦ λ e. e
+      | Forks holds if_so if_not ↦ λ e. alike p n (cond holds if_so if_not) inputs a la na e
+      | Takes kind go ↦ λ e. absurd (na (sym e))
+      | Unassumed next ↦ λ e. e
+      | Stops ↦ λ e. e
+    ] e
 
-stores : (w : List ℕ) (place : Option ℕ) (name : List ℕ) (v : ℤ) (c : Configuration) → Next (store_at place name v (swap w c)) ≡ swapped w (Next (store_at place name v c))
-stores w None name v c = refl
-stores w (Some place) name v c = refl
-
-works : (w : List ℕ) (item : BlockItem) (found : List ℤ) (c : Configuration) → work_step item found (swap w c) ≡ swapped w (work_step item found c)
-works w (Declare name value line) [] c = refl
-works w (Declare name value line) (v ∷ vs) c = refl
-works w (Assign name value line) [] c = refl
-works w (Assign name value line) (v ∷ vs) c = stores w (place_of name c.store) name v c
-works w (Assert relation left right line) [] c = refl
-works w (Assert relation left right line) (v ∷ []) c = refl
-works w (Assert relation left right line) (v ∷ u ∷ vs) c = asserts w _ line c
-
-takes : (w : List ℕ) (item : Item) (c : Configuration) → item_step item (swap w c) ≡ swapped w (item_step item c)
-takes w (Rest []) c = refl
-takes w (Rest (item ∷ left)) c = refl
-takes w (Work item found) c = works w item found c
-takes w (Tests item found) c = refl
-takes w (Value sum) c = refl
-takes w (Adds value []) c = refl
-takes w (Adds value (addend ∷ left)) c = refl
-
-steps : (w : List ℕ) (items : List Item) (c : Configuration) → step_at items (swap w c) ≡ swapped w (step_at items c)
-steps w [] c = refl
-steps w (item ∷ rest) c = takes w item (record c { control = rest })
-
-runs : (n : ℕ) (w : List ℕ) (c : Configuration) → after n (swap w c) ≡ swapped w (after n c)
-runs zero w c = refl
-runs (suc n) w c = ap (goes_on (λ d. after n d)) (steps w c.control c)
-    ∙ elim (step c) as (λ s. goes_on (λ d. after n d) (swapped w s) ≡ swapped w (goes_on (λ d. after n d) s)) [
-      | Next d ↦ runs n w d
-      | Broken check line ↦ refl
-      | Ended ↦ refl
-    ]
-
-unswapped : (w : List ℕ) (a : Answer) → IsEnd a → swapped w a ≡ a
-unswapped w (Next c) end = absurd end
-unswapped w (Broken check line) end = refl
-unswapped w Ended end = refl
-
-pub comes_alike : (program : Program) (inputs others : List ℕ) (a : Answer) → IsEnd a → Comes program inputs a → Comes program others a
-comes_alike program inputs others a end comes = (comes.0, runs comes.0 others (start program inputs) ∙ ap (swapped others) comes.1 ∙ unswapped others a end)
-
-pub safe_from_end : (program : Program) → Comes program [] Ended → Safe program
-safe_from_end program ends inputs check line breaks =
-    let same : Ended ≡ Broken check line = comes_to_one program [] Ended (Broken check line) tt tt ends (comes_alike program inputs [] (Broken check line) tt breaks) in
-    cc
+pub comes_alike : (p : Program) (inputs : List ℕ) (a : Answer) → IsEnd a → (a ≡ NeedsInput → ⊥) → Comes p [] a → Comes p inputs a
+comes_alike p inputs a la na ca = (ca.0, alike p ca.0 (start p) inputs a la na ca.1)

@@ -1,3 +1,10 @@
+pub mod Arrivals
 pub mod Executions
+pub mod Goals
+pub mod BlockEnds
+pub mod Costs
 pub mod Measure
-pub mod Ready
+pub mod Falls
+pub mod StatementFalls
+pub mod Endless
+pub mod Rows

@@ -1,101 +1,98 @@
--- How many steps are left, and that each step leaves fewer.
-use Rattle.std.proofs.Common.{arith, ◌≡◌, ℕ, zero, suc, ◌+◌, ◌<◌, ◌≤◌, Bool, true, false, List, [], ◌∷◌, ◌++◌, length, ℤ, Option, Some, None, refl, sym, ap, ◌∙◌, cond, length-append}
-use Rattle.c_model.specs.declared.checks.CheckKind.{CheckKind}
-use Rattle.c_model.specs.declared.program.Sum.{Sum}
-use Rattle.c_model.specs.declared.program.BlockItem.{BlockItem}
-use Rattle.c_model.specs.declared.program.BlockItem.TheVariants.{Declare, Assign, Assert}
-use Rattle.c_model.specs.declared.program.Program.{Program}
-use Rattle.c_model.specs.Machine.{Item, Rest, Work, Tests, Value, Adds, Configuration, Answer, Next, Broken, Ended, IsEnd, give, store_at, place_of, holds, work_step, item_step, step_at, step, goes_on, after, start, Comes}
+-- How many steps are left at most until the next arrival.
+use Rattle.std.proofs.Common.{ℕ, suc, ◌+◌, List, [], ◌∷◌, length, Option, Some, None}
+use Rattle.c_tree.specs.declared.expression.Expression.{Expression, out-Expression}
+use Rattle.c_tree.specs.declared.statement.BlockItem.{BlockItem}
+use Rattle.c_tree.specs.declared.statement.BlockItem.TheOpen.{Statement-F as t}
+use Rattle.c_tree.specs.declared.statement.Branch.{Branch, out-Branch}
+use Rattle.c_tree.specs.declared.statement.Statement.{Statement, out-Statement}
+use Rattle.c_rules.specs.declared.program.Program.{Program}
+use Rattle.c_model.specs.Configurations.{Item, Value, Needs, Place, Locates, CommaParts, Work, Tests, Decides, Rest, Branches, Branching, Branched, Seeks, Labels, Loop, Again, Back, Makes, Declaring, Unset, Fills, Parts}
+use Rattle.c_model.specs.Programs.{StatementNode}
+use Rattle.c_model.specs.Switches.{after_first}
+use Rattle.c_model.specs.Costs.{Cost, Steps, Both, more, total, all_costs, place_cost, value_cost, expression_cost, unset_cost, initialiser_cost, declaring_cost, labels_cost, search_cost, branches_cost, statement_size, item_size, branch_size, block_cost, makes_cost, back_cost}
 
-abbrev pub sum_steps : Sum → ℕ
-sum_steps sum = 2 + length sum.rest
+module _ (p : Program) where
+  abbrev pub value_left : Expression → ℕ → Cost
+  value_left x k = value_cost p (expression_cost p) (λ y. y) (out-Expression x) k
 
--- of an item with this many values
-abbrev pub work_steps : BlockItem → ℕ → ℕ
-work_steps (Declare name value line) zero = 2 + sum_steps value
-work_steps (Declare name value line) (suc k) = 1
-work_steps (Assign name value line) zero = 2 + sum_steps value
-work_steps (Assign name value line) (suc k) = 1
-work_steps (Assert relation left right line) zero = 3 + sum_steps left + sum_steps right
-work_steps (Assert relation left right line) (suc zero) = 2 + sum_steps right
-work_steps (Assert relation left right line) (suc (suc k)) = 1
+  abbrev pub place_left : Expression → ℕ → Cost
+  place_left x k = place_cost (expression_cost p) (out-Expression x) k
 
-abbrev pub rest_steps : List BlockItem → ℕ
-rest_steps [] = 1
-rest_steps (item ∷ left) = 1 + work_steps item 0 + rest_steps left
+  abbrev pub body_cost : Statement → Cost
+  body_cost x = (statement_size p x).cost
 
-abbrev pub item_steps : Item → ℕ
-item_steps (Rest left) = rest_steps left
-item_steps (Work item found) = work_steps item (length found)
-item_steps (Tests item found) = work_steps item (suc (length found))
-item_steps (Value sum) = sum_steps sum
-item_steps (Adds value left) = 1 + length left
+  -- from the end of the body of a loop
+  abbrev pub step_cost : Option Expression → Cost
+  step_cost None = Steps 1
+  step_cost (Some step) = more 3 (expression_cost p step)
 
-abbrev pub steps_left : List Item → ℕ
-steps_left [] = 0
-steps_left (item ∷ rest) = item_steps item + steps_left rest
+  abbrev pub again_node_cost : StatementNode → Cost
+  again_node_cost (t.Do body test at) = more 2 (expression_cost p test)
+  again_node_cost (t.For first test step body at) = step_cost step
+  again_node_cost _ = Steps 1
 
-next : (c d : Configuration) → Next c ≡ Next d → steps_left d.control ≡ steps_left c.control
-next c d q = let z : c ≡ d = cc in ap (λ z. steps_left z.control) (sym z)
+  -- of a statement that has the value of its expression
+  abbrev pub done_node_cost : StatementNode → Cost
+  done_node_cost (t.Switch value body at) = more 1 (body_cost body)
+  done_node_cost (t.While test body at) = more 2 (body_cost body)
+  done_node_cost (t.For first test step body at) = more 1 (Both (body_cost body) (step_cost step))
+  done_node_cost (t.Return value at) = Steps 2
+  done_node_cost _ = Steps 1
 
-hands : (v : ℤ) (items : List Item) → steps_left (give v items) ≡ steps_left items
-hands v [] = refl
-hands v (Tests item found ∷ rest) =
-    let n : length (found ++ v ∷ []) ≡ suc (length found) = omega (arith, length-append found (v ∷ [])) in
-    ap (λ n. work_steps item n + steps_left rest) n
-hands v (Rest left ∷ rest) = refl
-hands v (Work item found ∷ rest) = refl
-hands v (Value sum ∷ rest) = refl
-hands v (Adds value left ∷ rest) = refl
+  abbrev pub test_cost : Option Expression → Cost
+  test_cost None = Steps 0
+  test_cost (Some test) = expression_cost p test
 
-asserted : (b : Bool) (check : CheckKind) (line : ℕ) (c d : Configuration) → cond b (Next c) (Broken check line) ≡ Next d → steps_left d.control ≡ steps_left c.control
-asserted true check line c d q = next c d q
-asserted false check line c d q = cc
+  -- from the head of a loop
+  abbrev pub turn_node_cost : StatementNode → Cost
+  turn_node_cost (t.While test body at) = more 3 (Both (expression_cost p test) (body_cost body))
+  turn_node_cost (t.Do body test at) = more 3 (Both (expression_cost p test) (body_cost body))
+  turn_node_cost (t.For first test step body at) = more 2 (Both (test_cost test) (Both (body_cost body) (step_cost step)))
+  turn_node_cost _ = Steps 1
 
-stored : (place : Option ℕ) (name : List ℕ) (v : ℤ) (c d : Configuration) → Next (store_at place name v c) ≡ Next d → steps_left d.control ≡ steps_left c.control
-stored None name v c d q = next _ d q
-stored (Some place) name v c d q = next _ d q
+  abbrev pub default_cost : Option (List BlockItem) → Cost
+  default_cost None = Steps 0
+  default_cost (Some items) = more 2 (block_cost p items)
 
-works : (item : BlockItem) (found : List ℤ) (c d : Configuration) → work_step item found c ≡ Next d → 1 + steps_left d.control ≤ work_steps item (length found) + steps_left c.control
-works (Declare name value line) [] c d q = omega (arith, next _ d q)
-works (Declare name value line) (v ∷ vs) c d q = omega (arith, next _ d q)
-works (Assign name value line) [] c d q = omega (arith, next _ d q)
-works (Assign name value line) (v ∷ vs) c d q = omega (arith, stored (place_of name c.store) name v c d q)
-works (Assert relation left right line) [] c d q = omega (arith, next _ d q)
-works (Assert relation left right line) (v ∷ []) c d q = omega (arith, next _ d q)
-works (Assert relation left right line) (v ∷ w ∷ vs) c d q = omega (arith, asserted (holds relation v w) _ line c d q)
+  abbrev pub choices_cost : List Branch → Option Statement → Cost
+  choices_cost left otherwise = branches_cost (statement_size p) (branch_size p) left otherwise
 
-takes : (item : Item) (c d : Configuration) → item_step item c ≡ Next d → 1 + steps_left d.control ≤ item_steps item + steps_left c.control
-takes (Rest []) c d q = omega (arith, next _ d q)
-takes (Rest (item ∷ left)) c d q = omega (arith, next _ d q)
-takes (Work item found) c d q = works item found c d q
-takes (Tests item found) c d q = cc
-takes (Value sum) c d q = omega (arith, next _ d q)
-takes (Adds value []) c d q = omega (arith, next _ d q, hands value c.control)
-takes (Adds value (addend ∷ left)) c d q = omega (arith, next _ d q)
+  abbrev pub branched_cost : List Branch → Option Statement → Cost
+  branched_cost [] otherwise = Steps 1
+  branched_cost (x ∷ left) otherwise = more 1 (Both (body_cost (out-Branch x).body) (choices_cost left otherwise))
 
-falls : (items : List Item) (c d : Configuration) → step_at items c ≡ Next d → 1 + steps_left d.control ≤ steps_left items
-falls [] c d q = cc
-falls (item ∷ rest) c d q = takes item (record c { control = rest }) d q
+  -- of an item; a loop's head below the top ends the block
+  abbrev pub item_cost : Item → Cost
+  item_cost (Value x found) = value_left x (length found)
+  item_cost (Needs x found) = value_left x (suc (length found))
+  item_cost (Place x found) = place_left x (length found)
+  item_cost (Locates x found) = place_left x (suc (length found))
+  item_cost (CommaParts left) = all_costs (expression_cost p) left
+  item_cost (Work x) = body_cost x
+  item_cost (Tests x) = done_node_cost (out-Statement x)
+  item_cost (Decides x v) = done_node_cost (out-Statement x)
+  item_cost (Rest left) = block_cost p left
+  item_cost (Branches left otherwise) = choices_cost left otherwise
+  item_cost (Branching left otherwise) = branched_cost left otherwise
+  item_cost (Branched left otherwise v) = branched_cost left otherwise
+  item_cost (Seeks kind value left otherwise) = Both (search_cost (item_size p) left) (default_cost otherwise)
+  item_cost (Labels kind value x items otherwise) = Both (labels_cost (statement_size p x).labels (block_cost p items)) (Both (search_cost (item_size p) (after_first items)) (default_cost otherwise))
+  item_cost (Again x) = again_node_cost (out-Statement x)
+  item_cost (Back f objects) = back_cost p f
+  item_cost (Makes f made) = makes_cost p f (length made)
+  item_cost (Declaring left) = declaring_cost p left
+  item_cost (Unset number offset) = unset_cost p number offset
+  item_cost (Fills number offset t x) = initialiser_cost p x
+  item_cost (Parts number offset t part left) = all_costs (initialiser_cost p) left
+  item_cost _ = Steps 1
 
-pub step_falls : (c d : Configuration) → step c ≡ Next d → steps_left d.control < steps_left c.control
-step_falls c d q = omega (arith, falls c.control c d q)
+  -- with numbers for the calls
+  module _ (cs : ℕ → ℕ) where
+    abbrev pub left : List Item → ℕ
+    left [] = 0
+    left (item ∷ rest) = total cs (item_cost item) + left rest
 
-abbrev Ends : Configuration → Type 0
-Ends c = (a : Answer) × (n : ℕ) × IsEnd a × (after n c ≡ a)
-
-stops : (c : Configuration) (s : Answer) → step c ≡ s → ((d : Configuration) → s ≡ Next d → Ends d) → Ends c
-stops c (Next d) q more = let e = more d refl in (e.0, suc e.1, e.2, ap (goes_on (λ d. after e.1 d)) q ∙ e.3)
-stops c (Broken check line) q more = (Broken check line, 1, tt, ap (goes_on (λ d. after 0 d)) q)
-stops c Ended q more = (Ended, 1, tt, ap (goes_on (λ d. after 0 d)) q)
-
--- with fuel for the steps that are left
-ends : (fuel : ℕ) (c : Configuration) → steps_left c.control < fuel → Ends c
-ends zero c h = absurd (omega arith)
-ends (suc fuel) c h = stops c (step c) refl (λ d q. ends fuel d (omega (arith, step_falls c d q)))
-
-pub comes_to_end : (program : Program) (inputs : List ℕ) → (a : Answer) × IsEnd a × Comes program inputs a
-comes_to_end program inputs =
-    let c : Configuration = start program inputs in
-    let e = ends (suc (steps_left c.control)) c (omega arith) in
-    (e.0, e.2, (e.1, e.3))
+    -- from a state; a loop's head on top is left
+    abbrev pub steps_left : List Item → ℕ
+    steps_left (Loop x ∷ rest) = total cs (turn_node_cost (out-Statement x)) + left rest
+    steps_left items = left items

@@ -1,28 +1,46 @@
-ghost use Rattle.std.specs.Prelude.{◌≡◌, ℕ, List, []};
-ghost use Rattle.c_model.specs.declared.program.Program.{Program};
-ghost use Rattle.c_model.specs.Machine.{Configuration, Answer, IsEnd, step, Comes, Safe};
+//! Laws of the definitions. Each function computes nothing: its contract is the law.
+
+ghost use Rattle.c_model.specs.Laws.{ArrivalsAreBare, BlockHasOneEnd, EndsAlike, GoalsAgree, HasOneEnd, NoBlockIsEndless};
+ghost use Rattle.c_model.specs.Worked.{WorkedArithmetic, WorkedAssertions, WorkedComparisons, WorkedConversions, WorkedObjects, WorkedOperands, WorkedPointers, WorkedShifts};
 
 /// An execution has at most one end.
 pub fn has_one_end()
-    ensures { (program : Program) (inputs : List ℕ) (a b : Answer) → IsEnd a → IsEnd b → Comes program inputs a → Comes program inputs b → a ≡ b }
+    ensures { HasOneEnd }
 {}
 
-/// Every execution of a straight program ends.
-pub fn always_ends()
-    ensures { (program : Program) (inputs : List ℕ) → (a : Answer) × IsEnd a × Comes program inputs a }
-{}
-
-/// An execution ends only where no item is left on the control stack.
-pub fn ends_with_nothing_left()
-    ensures { (program : Program) (inputs : List ℕ) (c : Configuration) → Comes program inputs (Answer.Next c) → step c ≡ Answer.Ended → c.control ≡ [] }
-{}
-
-/// A straight program asks for no input, so it ends alike on all lists of inputs.
+/// An execution that ends without an input ends so on all inputs.
 pub fn ends_alike()
-    ensures { (program : Program) (inputs others : List ℕ) (a : Answer) → IsEnd a → Comes program inputs a → Comes program others a }
+    ensures { EndsAlike }
 {}
 
-/// A straight program is safe where its run on no inputs ends unbroken.
-pub fn ended_is_safe()
-    ensures { (program : Program) → Comes program [] Answer.Ended → Safe program }
+/// Where all checks are goals, a check breaks exactly where it breaks as the one goal.
+pub fn goals_agree()
+    ensures { GoalsAgree }
+{}
+
+/// A block has at most one end.
+pub fn block_has_one_end()
+    ensures { BlockHasOneEnd }
+{}
+
+/// The state at each arrival is one at which the bare machine arrives.
+pub fn arrivals_are_bare()
+    ensures { ArrivalsAreBare }
+{}
+
+/// Each block ends, where no call leads back to its own function.
+pub fn no_block_is_endless()
+    ensures { NoBlockIsEndless }
+{}
+
+/// Worked examples of operators, conversions, pointers and checks, each with one that breaks and one that does not.
+pub fn machine_is_as_worked()
+    ensures arithmetic { WorkedArithmetic }
+    ensures shifts { WorkedShifts }
+    ensures operands { WorkedOperands }
+    ensures conversions { WorkedConversions }
+    ensures pointers { WorkedPointers }
+    ensures comparisons { WorkedComparisons }
+    ensures objects { WorkedObjects }
+    ensures assertions { WorkedAssertions }
 {}

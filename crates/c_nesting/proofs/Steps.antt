@@ -183,7 +183,7 @@ unfolding initialiser_fits
 rolled_initialiser l = fold-roll-Initialiser Fits (λ l. over (initialiser_parts (λ f. f) l)) l
 
 same_initialiser : (l : Initialiser-F Initialiser) (n : ℕ) → initialiser_parts (λ (f : Fits). f) (layer_initialiser l) n ≡ initialiser_parts initialiser_fits l n
-same_initialiser (i.Value value) n = refl
+same_initialiser (i.Value value at) n = refl
 same_initialiser (i.Braces parts at) n = each_is initialiser_fits parts n
 
 pub initialiser_deeper : (x : Initialiser) (n : ℕ) → initialiser_fits x n ≡ over (initialiser_parts initialiser_fits (out-Initialiser x)) n

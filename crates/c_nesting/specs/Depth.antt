@@ -147,7 +147,7 @@ trees = record { declarator = declarator_fits; constant = constant_fits; express
 -- ---- declarations
 
 abbrev pub initialiser_parts : {I : Type 0} → (I → Fits) → Initialiser-F I → Fits
-initialiser_parts fits (i.Value value) = expression_fits value
+initialiser_parts fits (i.Value value at) = expression_fits value
 initialiser_parts fits (i.Braces parts at) = each fits parts
 
 unfoldable pub initialiser_fits : Initialiser → Fits

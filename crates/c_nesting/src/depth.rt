@@ -16,9 +16,6 @@ use c_tree::{
     ForStart, Initialiser, Member, MemberLine, Parameter, Specifier, Statement, Tree, TypeName,
 };
 
-/// How many expressions, specifiers, declarators, initialisers and statements of a tree may lie in one another.
-pub const MAX_DEPTH: usize = 512;
-
 /// Whether an expression is no deeper than this.
 #[cycle(types)]
 fn expression(x: &Expression, limit: usize) -> bool
@@ -303,7 +300,7 @@ fn initialiser_parts(x: &Initialiser, limit: usize) -> bool
     ensures { result ≡ spec.initialiser_parts spec.initialiser_fits (out-Initialiser x.now) limit }
 {
     match x {
-        Initialiser::Value { value } => expression(value, limit),
+        Initialiser::Value { value, .. } => expression(value, limit),
         Initialiser::Braces { parts, .. } => initialisers(parts.as_slice(), limit),
     }
 }

@@ -4,5 +4,5 @@
 mod depth;
 mod nesting;
 
-pub use depth::{MAX_DEPTH, fits};
-pub use nesting::{LIMIT, first_left_out, first_too_deep};
+pub use depth::fits;
+pub use nesting::{first_left_out, first_too_deep};

@@ -6,12 +6,9 @@ ghost use Rattle.c_tree.specs.Nesting as spec;
 ghost use Rattle.c_tree.specs.Nesting.{IsFirstDeeper, measure};
 ghost use Rattle.c_tree.specs.SpellsText.{kinds_of};
 
-use c_tokens::{Token, TokenKind};
+use c_tokens::{MAX_NESTING, Token, TokenKind};
 use kv_base::{NoMemory, Stack};
 use std::alloc::Global;
-
-/// How deep the tokens of a text may be nested.
-pub const LIMIT: usize = 500;
 
 /// The number of the first token that the accepted C leaves out: a word for one of its parts, or a floating constant.
 pub fn first_left_out(tokens: &[Token]) -> Option<usize>
@@ -20,6 +17,7 @@ pub fn first_left_out(tokens: &[Token]) -> Option<usize>
     tokens.iter().position(|token| is_left_out(&token.kind))
 }
 
+/// Whether the accepted C leaves a token out.
 fn is_left_out(kind: &TokenKind) -> bool
     ensures { result ≡ spec.is_left_out kind.now }
 {
@@ -46,7 +44,7 @@ fn is_left_out(kind: &TokenKind) -> bool
 
 /// The number of the first token after which the text is nested deeper than the limit.
 pub fn first_too_deep(alloc: Global, tokens: &[Token]) -> Result<Option<usize>, NoMemory>
-    ensures { IfOk result (λ found. IsFirstDeeper LIMIT (kinds_of tokens.now) found) }
+    ensures { IfOk result (λ found. IsFirstDeeper MAX_NESTING (kinds_of tokens.now) found) }
 {
     let mut counts = Counts {
         top: 0,
@@ -55,13 +53,14 @@ pub fn first_too_deep(alloc: Global, tokens: &[Token]) -> Result<Option<usize>, 
     };
     for i in 0..tokens.len() {
         counts.take(&tokens[i].kind, kind_at(tokens, i + 1))?;
-        if counts.depth > LIMIT {
+        if counts.depth > MAX_NESTING {
             return Ok(Some(i));
         }
     }
     Ok(None)
 }
 
+/// The token of a number.
 fn kind_at(tokens: &[Token], at: usize) -> Option<&TokenKind>
     ensures { option_copied result ≡ slice_get (kinds_of tokens.now) at }
 {
@@ -85,7 +84,7 @@ impl Counts {
     /// Goes on with a token, by the token after it.
     fn take(&mut self, kind: &TokenKind, after: Option<&TokenKind>) -> Result<(), NoMemory>
         requires exact { self.old.depth ≡ measure (self.old.top ∷ self.old.below) }
-        requires within { self.old.depth ≤ LIMIT }
+        requires within { self.old.depth ≤ MAX_NESTING }
         ensures exact { OnOk result (self.new.depth ≡ measure (self.new.top ∷ self.new.below)) }
         ensures counts { OnOk result (self.new.top ∷ self.new.below ≡ spec.counts_then kind.now (option_copied after.entry) (self.old.top ∷ self.old.below)) }
     {
@@ -110,9 +109,10 @@ impl Counts {
         Ok(())
     }
 
+    /// A bracket opens: one more is open, in which nothing is counted yet.
     fn open(&mut self) -> Result<(), NoMemory>
         requires exact { self.old.depth ≡ measure (self.old.top ∷ self.old.below) }
-        requires within { self.old.depth ≤ LIMIT }
+        requires within { self.old.depth ≤ MAX_NESTING }
         ensures exact { OnOk result (self.new.depth ≡ measure (self.new.top ∷ self.new.below)) }
         ensures counts { OnOk result (self.new.top ∷ self.new.below ≡ 0 ∷ (self.old.top ∷ self.old.below)) }
     {
@@ -122,6 +122,7 @@ impl Counts {
         Ok(())
     }
 
+    /// A bracket closes. The outermost stays, with nothing counted.
     fn close(&mut self)
         requires { self.old.depth ≡ measure (self.old.top ∷ self.old.below) }
         ensures exact { self.new.depth ≡ measure (self.new.top ∷ self.new.below) }
@@ -134,9 +135,10 @@ impl Counts {
         }
     }
 
+    /// One more counts in the innermost bracket.
     fn raise(&mut self)
         requires exact { self.old.depth ≡ measure (self.old.top ∷ self.old.below) }
-        requires within { self.old.depth ≤ LIMIT }
+        requires within { self.old.depth ≤ MAX_NESTING }
         ensures exact { self.new.depth ≡ measure (self.new.top ∷ self.new.below) }
         ensures counts { self.new.top ∷ self.new.below ≡ (self.old.top + 1) ∷ self.old.below }
     {
@@ -144,9 +146,10 @@ impl Counts {
         self.depth += 1;
     }
 
+    /// The count of the innermost bracket begins anew, at 0 or 1.
     fn restart(&mut self, count: usize)
         requires exact { self.old.depth ≡ measure (self.old.top ∷ self.old.below) }
-        requires within { self.old.depth ≤ LIMIT + 1 }
+        requires within { self.old.depth ≤ MAX_NESTING + 1 }
         requires small { count ≤ 1 }
         ensures exact { self.new.depth ≡ measure (self.new.top ∷ self.new.below) }
         ensures counts { self.new.top ∷ self.new.below ≡ count ∷ self.old.below }
@@ -155,9 +158,10 @@ impl Counts {
         self.top = count;
     }
 
+    /// An item ends, before this token.
     fn end_item(&mut self, after: Option<&TokenKind>)
         requires exact { self.old.depth ≡ measure (self.old.top ∷ self.old.below) }
-        requires within { self.old.depth ≤ LIMIT + 1 }
+        requires within { self.old.depth ≤ MAX_NESTING + 1 }
         ensures exact { self.new.depth ≡ measure (self.new.top ∷ self.new.below) }
         ensures counts { self.new.top ∷ self.new.below ≡ spec.end_item (option_copied after.entry) (self.old.top ∷ self.old.below) }
     {
@@ -167,9 +171,10 @@ impl Counts {
         }
     }
 
+    /// The count goes on, before this token.
     fn go_on(&mut self, after: Option<&TokenKind>)
         requires exact { self.old.depth ≡ measure (self.old.top ∷ self.old.below) }
-        requires within { self.old.depth ≤ LIMIT }
+        requires within { self.old.depth ≤ MAX_NESTING }
         ensures exact { self.new.depth ≡ measure (self.new.top ∷ self.new.below) }
         ensures counts { self.new.top ∷ self.new.below ≡ spec.go_on (option_copied after.entry) (self.old.top ∷ self.old.below) }
     {

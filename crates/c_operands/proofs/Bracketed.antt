@@ -5,19 +5,20 @@ use Rattle.c_tree.specs.declared.expression.Expression.{Expression}
 use Rattle.c_tree.specs.declared.expression.Expression.TheVariants as tree
 use Rattle.c_tree.specs.Places.{Place, next}
 use Rattle.c_cursor.specs.declared.fault.Fault.{Fault}
-use Rattle.c_grammar.specs.Kinds.{kind_at, suffix, Prefix, Opens, prefix, begins_type}
-use Rattle.c_grammar.specs.Reader.{Outcome, Gives, Refuses, and_then, where_round, bracketed, sized, sized_by}
+use Rattle.c_grammar.specs.Marks.{mark_at}
+use Rattle.c_grammar.specs.Kinds.{kind_at, Prefix, Opens, prefix, begins_type}
+use Rattle.c_grammar.specs.ReadExpressions.{Outcome, Gives, Refuses, and_then, where_closes, bracketed, sized, sized_by}
 use Rattle.c_grammar.specs.Readers.{read, more, types}
 use Rattle.c_cursor.specs.Reads.{Reads}
 use Rattle.c_operands.specs.Operands.{grouped, cast, sized_type, sized_operand, opens_by, opens_type}
 use Rattle.c_cursor.proofs.Lists.{then_both}
-use Rattle.c_cursor.proofs.Single.{round_both}
+use Rattle.c_cursor.proofs.Skipped.{closes_both}
 
 closed_on : {A B : Type 0} (kinds : List TokenKind) (o : Outcome A) (f : A → Place → Outcome B)
-    → and_then o (λ x q. where_round (suffix (kind_at kinds q)) (f x (next q))) ≡ and_then (and_then o (λ x q. where_round (suffix (kind_at kinds q)) (Gives x (next q)))) f
+    → and_then o (λ x q. where_closes (mark_at kinds q) (f x (next q))) ≡ and_then (and_then o (λ x q. where_closes (mark_at kinds q) (Gives x (next q)))) f
 closed_on kinds o f =
-    then_both o (λ x q. where_round (suffix (kind_at kinds q)) (f x (next q))) (λ x q. where_round (suffix (kind_at kinds q)) (Gives x (next q))) f
-    (λ x q. round_both (suffix (kind_at kinds q)) (f x (next q)) (Gives x (next q)) f refl)
+    then_both o (λ x q. where_closes (mark_at kinds q) (f x (next q))) (λ x q. where_closes (mark_at kinds q) (Gives x (next q))) f
+    (λ x q. closes_both (mark_at kinds q) (f x (next q)) (Gives x (next q)) f refl)
 
 group_on : (kinds : List TokenKind) (n least : ℕ) (p : Place) → bracketed kinds (read kinds n) (types kinds n) (more kinds n) least p false ≡ grouped kinds n least (next p)
 group_on kinds n least p = closed_on kinds (read kinds n 0 (next p)) (λ x q. more kinds n 15 least x q)

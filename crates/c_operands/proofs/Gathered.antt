@@ -6,7 +6,7 @@ use Rattle.c_tree.specs.Places.{Place, next}
 use Rattle.c_grammar.specs.declared.kinds.Suffix.{Suffix}
 use Rattle.c_grammar.specs.declared.kinds.Suffix.TheVariants.{Commas}
 use Rattle.c_grammar.specs.Kinds.{kind_at, suffix, goes_on}
-use Rattle.c_grammar.specs.Reader.{Outcome, Gives, Refuses, and_then, Reader, items_after, items}
+use Rattle.c_grammar.specs.ReadExpressions.{Outcome, Gives, Refuses, and_then, ReadsExpression, items_after, items}
 use Rattle.c_grammar.specs.Readers.{read, more}
 use Rattle.c_grammar.specs.Suffixes.{reached}
 use Rattle.c_cursor.proofs.Lists.{after, after_none, joined, one_further}
@@ -15,12 +15,12 @@ use Rattle.c_operands.proofs.Suffixed.{taken_goes_on}
 
 -- ---- assignment expressions with commas
 
-items_step : (kinds : List TokenKind) (rd : Reader) (n i : ℕ) (p : Place) → i < n
+items_step : (kinds : List TokenKind) (rd : ReadsExpression) (n i : ℕ) (p : Place) → i < n
     → items kinds rd (n - i) p ≡ and_then (rd 1 p) (λ x q. items_after (items kinds rd (n - (i + 1))) x q (suffix (kind_at kinds q)))
 unfolding items
 items_step kinds rd n i p h = ap (λ m. items kinds rd m p) (one_further n i h)
 
-items_behind : (kinds : List TokenKind) (rd : Reader) (n i : ℕ) (p q : Place) (x : Expression) → i < n → rd 1 p ≡ Gives x q
+items_behind : (kinds : List TokenKind) (rd : ReadsExpression) (n i : ℕ) (p q : Place) (x : Expression) → i < n → rd 1 p ≡ Gives x q
     → items kinds rd (n - i) p ≡ items_after (items kinds rd (n - (i + 1))) x q (suffix (kind_at kinds q))
 items_behind kinds rd n i p q x h e =
     items_step kinds rd n i p h ∙ ap (λ o. and_then o (λ x q. items_after (items kinds rd (n - (i + 1))) x q (suffix (kind_at kinds q)))) e
@@ -29,22 +29,22 @@ last_by : (more : Place → Outcome (List Expression)) (x : Expression) (q : Pla
 last_by more x q Commas f = absurd (f refl)
 last_by more x q _ f = refl
 
-pub items_refused : (kinds : List TokenKind) (rd : Reader) (n i : ℕ) (p : Place) (found : List Expression) → i < n → rd 1 p ≡ Refuses → after found (items kinds rd (n - i) p) ≡ Refuses
+pub items_refused : (kinds : List TokenKind) (rd : ReadsExpression) (n i : ℕ) (p : Place) (found : List Expression) → i < n → rd 1 p ≡ Refuses → after found (items kinds rd (n - i) p) ≡ Refuses
 items_refused kinds rd n i p found h e =
     ap (after found) (items_step kinds rd n i p h ∙ ap (λ o. and_then o (λ x q. items_after (items kinds rd (n - (i + 1))) x q (suffix (kind_at kinds q)))) e)
 
-pub items_none : (kinds : List TokenKind) (rd : Reader) (n i : ℕ) (p : Place) (found : List Expression) → n ≤ i → after found (items kinds rd (n - i) p) ≡ Refuses
+pub items_none : (kinds : List TokenKind) (rd : ReadsExpression) (n i : ℕ) (p : Place) (found : List Expression) → n ≤ i → after found (items kinds rd (n - i) p) ≡ Refuses
 unfolding items
 items_none kinds rd n i p found h =
     let none : n - i ≡ 0 = omega arith in
     ap (λ m. after found (items kinds rd m p)) none
 
-pub items_last : (kinds : List TokenKind) (rd : Reader) (n i : ℕ) (whole : Outcome (List Expression)) (p q : Place) (found further : List Expression) (x : Expression)
+pub items_last : (kinds : List TokenKind) (rd : ReadsExpression) (n i : ℕ) (whole : Outcome (List Expression)) (p q : Place) (found further : List Expression) (x : Expression)
     → whole ≡ after found (items kinds rd (n - i) p) → i < n → rd 1 p ≡ Gives x q → further ≡ found ++ x ∷ [] → (suffix (kind_at kinds q) ≡ Commas → ⊥) → whole ≡ Gives further q
 items_last kinds rd n i whole p q found further x w h e g f =
     w ∙ (ap (after found) (items_behind kinds rd n i p q x h e ∙ last_by (items kinds rd (n - (i + 1))) x q (suffix (kind_at kinds q)) f) ∙ ap (λ xs. Gives xs q) (sym g))
 
-pub items_next : (kinds : List TokenKind) (rd : Reader) (n i : ℕ) (whole : Outcome (List Expression)) (p q r : Place) (found further : List Expression) (x : Expression)
+pub items_next : (kinds : List TokenKind) (rd : ReadsExpression) (n i : ℕ) (whole : Outcome (List Expression)) (p q r : Place) (found further : List Expression) (x : Expression)
     → whole ≡ after found (items kinds rd (n - i) p) → i < n → rd 1 p ≡ Gives x q → further ≡ found ++ x ∷ [] → suffix (kind_at kinds q) ≡ Commas → r ≡ next q
     → whole ≡ after further (items kinds rd (n - (i + 1)) r)
 items_next kinds rd n i whole p q r found further x w h e g f k =
@@ -53,7 +53,7 @@ items_next kinds rd n i whole p q r found further x w h e g f k =
     ∙ (ap (λ xs. after xs (items kinds rd (n - (i + 1)) (next q))) (sym g) ∙ ap (λ t. after further (items kinds rd (n - (i + 1)) t)) (sym k))))
 
 -- what was found when a loop begins
-pub items_begins : (kinds : List TokenKind) (rd : Reader) (n i : ℕ) (p : Place) (found : List Expression) → i ≡ 0 → found ≡ []
+pub items_begins : (kinds : List TokenKind) (rd : ReadsExpression) (n i : ℕ) (p : Place) (found : List Expression) → i ≡ 0 → found ≡ []
     → items kinds rd n p ≡ after found (items kinds rd (n - i) p)
 items_begins kinds rd n i p found h e =
     let all : n ≡ n - i = omega arith in

@@ -5,8 +5,9 @@ use Rattle.c_tree.specs.declared.expression.Expression.{Expression}
 use Rattle.c_tree.specs.declared.expression.Expression.TheVariants as tree
 use Rattle.c_tree.specs.declared.expression.TypeName.{TypeName}
 use Rattle.c_tree.specs.Places.{Place, next}
-use Rattle.c_grammar.specs.Kinds.{kind_at, suffix, Prefix, Opens, prefix, begins_type}
-use Rattle.c_grammar.specs.Reader.{Outcome, Gives, and_then, where_round, prefix_taken}
+use Rattle.c_grammar.specs.Marks.{mark_at}
+use Rattle.c_grammar.specs.Kinds.{kind_at, Prefix, Opens, prefix, begins_type}
+use Rattle.c_grammar.specs.ReadExpressions.{Outcome, Gives, and_then, where_closes, prefix_taken}
 use Rattle.c_grammar.specs.Readers.{read, more, types}
 
 -- an expression that begins with this token
@@ -15,11 +16,11 @@ operand kinds n least p s = prefix_taken kinds (read kinds n) (types kinds n) (m
 
 -- an expression, and the `)` after it
 abbrev pub closed_expression : List TokenKind → ℕ → Place → Outcome Expression
-closed_expression kinds n p = and_then (read kinds n 0 p) (λ x q. where_round (suffix (kind_at kinds q)) (Gives x (next q)))
+closed_expression kinds n p = and_then (read kinds n 0 p) (λ x q. where_closes (mark_at kinds q) (Gives x (next q)))
 
 -- a type name, and the `)` after it
 abbrev pub closed_type : List TokenKind → ℕ → Place → Outcome TypeName
-closed_type kinds n p = and_then (types kinds n p) (λ t q. where_round (suffix (kind_at kinds q)) (Gives t (next q)))
+closed_type kinds n p = and_then (types kinds n p) (λ t q. where_closes (mark_at kinds q) (Gives t (next q)))
 
 -- after the `(` of an expression in round brackets
 abbrev pub grouped : List TokenKind → ℕ → ℕ → Place → Outcome Expression

@@ -4,7 +4,7 @@ ghost use Rattle.std.specs.Prelude.{◌≡◌, ◌<◌, IsTrue};
 ghost use Rattle.c_tree.specs.Places.{next};
 ghost use Rattle.c_tree.specs.SpellsText.{kinds_of};
 ghost use Rattle.c_grammar.specs.Kinds.{kind_at, prefix, prefix_of, begins_type, Names, Constants, Texts, StepsFirst, Operates};
-ghost use Rattle.c_grammar.specs.Reader as spec;
+ghost use Rattle.c_grammar.specs.ReadExpressions as spec;
 ghost use Rattle.c_grammar.specs.Readers as readers;
 ghost use Rattle.c_cursor.specs.Reads.{Reads};
 ghost use Rattle.c_cursor.specs.Parts.{ReadsExpressions, ReadsPart};
@@ -12,7 +12,7 @@ ghost use Rattle.c_operands.specs.Operands.{operand, opens_type, closed_expressi
 
 use crate::Suffixes;
 use c_boxes::{keeping, pair};
-use c_cursor::{Cursor, Fault, begins_type, close_round, is_start, refuse};
+use c_cursor::{Cursor, Fault, Mark, begins_type, is_start, refuse, take};
 use c_grammar::{CAST, POSTFIX, UNARY};
 use c_tokens::{Token, TokenKind};
 use c_tree::{Expression, Step, TypeName, UnaryOperator};
@@ -60,13 +60,12 @@ impl<'t, R, T: Fn(Global, &[Token], usize, &mut Cursor) -> Result<TypeName, Faul
     }
 
     /// A type name with the `)` after it.
-    #[tactic(auto, using(c_cursor::proofs::Single::round_then))]
     fn closed_type(&self, place: &mut Cursor) -> Result<TypeName, Fault>
         requires types { ReadsPart readers.types self.now.suffixes.depth (T.pre self.now.types) (T.post self.now.types) }
         ensures { Reads (closed_type (kinds_of self.now.suffixes.tokens.now) self.now.suffixes.depth place.old) result place.new }
     {
         let named = self.types(place)?;
-        let (named, _) = keeping(named, close_round(self.suffixes.tokens, place))?;
+        let (named, _) = keeping(named, take(self.suffixes.tokens, Mark::RoundCloses, place))?;
         Ok(named)
     }
 }
@@ -77,16 +76,16 @@ impl<'t, R: Fn(Global, &[Token], usize, u8, &mut Cursor) -> Result<Expression, F
     T,
 > {
     /// An expression with the `)` after it.
-    #[tactic(auto, using(c_cursor::proofs::Single::round_then))]
     fn closed_expression(&self, place: &mut Cursor) -> Result<Expression, Fault>
         requires expressions { ReadsExpressions self.now.suffixes.depth (R.pre self.now.suffixes.read) (R.post self.now.suffixes.read) }
         ensures { Reads (closed_expression (kinds_of self.now.suffixes.tokens.now) self.now.suffixes.depth place.old) result place.new }
     {
         let inner = self.suffixes.read(self.suffixes.depth, 0, place)?;
-        let (inner, _) = keeping(inner, close_round(self.suffixes.tokens, place))?;
+        let (inner, _) = keeping(inner, take(self.suffixes.tokens, Mark::RoundCloses, place))?;
         Ok(inner)
     }
 
+    /// A name (6.5.1), which is no typedef name.
     fn named(&self, least: u8, text: &Bytes, place: &mut Cursor) -> Result<Expression, Fault>
         requires expressions { ReadsExpressions self.now.suffixes.depth (R.pre self.now.suffixes.read) (R.post self.now.suffixes.read) }
         requires here { place.old.at < usize.MAX }
@@ -102,6 +101,7 @@ impl<'t, R: Fn(Global, &[Token], usize, u8, &mut Cursor) -> Result<Expression, F
             .more(POSTFIX, least, Expression::Name { name, at }, place)
     }
 
+    /// A constant (6.5.1).
     fn constant(
         &self,
         least: u8,
@@ -123,6 +123,7 @@ impl<'t, R: Fn(Global, &[Token], usize, u8, &mut Cursor) -> Result<Expression, F
         )
     }
 
+    /// A string literal (6.5.1).
     fn text(&self, least: u8, place: &mut Cursor) -> Result<Expression, Fault>
         requires expressions { ReadsExpressions self.now.suffixes.depth (R.pre self.now.suffixes.read) (R.post self.now.suffixes.read) }
         requires here { place.old.at < usize.MAX }
@@ -134,6 +135,7 @@ impl<'t, R: Fn(Global, &[Token], usize, u8, &mut Cursor) -> Result<Expression, F
             .more(POSTFIX, least, Expression::Text { at }, place)
     }
 
+    /// `++` or `--` before an operand (6.5.3.1).
     fn stepped_first(&self, least: u8, step: Step, place: &mut Cursor) -> Result<Expression, Fault>
         requires expressions { ReadsExpressions self.now.suffixes.depth (R.pre self.now.suffixes.read) (R.post self.now.suffixes.read) }
         requires here { place.old.at < usize.MAX }
@@ -153,6 +155,7 @@ impl<'t, R: Fn(Global, &[Token], usize, u8, &mut Cursor) -> Result<Expression, F
         )
     }
 
+    /// A unary operator before an operand (6.5.3.3).
     fn operated(
         &self,
         least: u8,

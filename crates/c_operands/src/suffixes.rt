@@ -4,14 +4,14 @@ ghost use Rattle.std.specs.Prelude.{◌≡◌, ◌≤◌, ◌<◌, [], IfOk};
 ghost use Rattle.c_tree.specs.SpellsText.{kinds_of};
 ghost use Rattle.c_tree.specs.declared.expression.Expression.TheVariants as tree;
 ghost use Rattle.c_grammar.specs.declared.kinds.Suffix.TheVariants as Suffix;
-ghost use Rattle.c_grammar.specs.Reader as spec;
+ghost use Rattle.c_grammar.specs.ReadExpressions as spec;
 ghost use Rattle.c_grammar.specs.Readers as readers;
 ghost use Rattle.c_cursor.specs.Reads.{Reads, IsSuffix};
 ghost use Rattle.c_cursor.specs.Parts.{ReadsExpressions};
-ghost use Rattle.c_operands.specs.Suffixed.{stop, suffixed};
+ghost use Rattle.c_operands.specs.Suffixed.{call_with, stop, suffixed};
 
 use c_boxes::{beside, keeping, pair, triple, with_first};
-use c_cursor::{Cursor, Fault, close_round, close_square, colon, name, refuse, suffix};
+use c_cursor::{Cursor, Fault, Mark, mark_at, name, refuse, suffix, take};
 use c_grammar::{ASSIGNMENT, CONDITIONAL, Suffix, level};
 use c_tokens::Token;
 use c_tree::{AssignOperator, BinaryOperator, Expression, Step};
@@ -19,6 +19,7 @@ use kv_base::NoMemory;
 use sqlite_items::{Boxed, Items};
 use std::alloc::Global;
 
+/// The node of a choice, whose `?` is at a token.
 fn conditional(
     alloc: Global,
     test: Expression,
@@ -79,6 +80,7 @@ impl<'t, R: Fn(Global, &[Token], usize, u8, &mut Cursor) -> Result<Expression, F
         Err(refuse(place))
     }
 
+    /// A binary operator with its right operand (6.5.5 to 6.5.14).
     fn infix(
         &self,
         depth: usize,
@@ -103,6 +105,7 @@ impl<'t, R: Fn(Global, &[Token], usize, u8, &mut Cursor) -> Result<Expression, F
         })
     }
 
+    /// An assignment operator with its right operand (6.5.16).
     fn assigned(
         &self,
         depth: usize,
@@ -127,6 +130,7 @@ impl<'t, R: Fn(Global, &[Token], usize, u8, &mut Cursor) -> Result<Expression, F
         })
     }
 
+    /// `? expression : expression` (6.5.15).
     fn chosen(
         &self,
         depth: usize,
@@ -145,7 +149,6 @@ impl<'t, R: Fn(Global, &[Token], usize, u8, &mut Cursor) -> Result<Expression, F
     }
 
     /// The last part of a choice.
-    #[tactic(auto, using(c_cursor::proofs::Single::colon_then))]
     fn choice(
         &self,
         depth: usize,
@@ -158,11 +161,12 @@ impl<'t, R: Fn(Global, &[Token], usize, u8, &mut Cursor) -> Result<Expression, F
         requires within { depth ≤ self.now.depth }
         ensures { let kinds = kinds_of self.now.tokens.now in Reads (spec.choice_of kinds (readers.read kinds depth) stop 0 test (record { at = at; blocks = [] }) taken place.old) result place.new }
     {
-        let (parts, _) = keeping((test, taken), colon(self.tokens, place))?;
+        let (parts, _) = keeping((test, taken), take(self.tokens, Mark::Colon, place))?;
         let ((test, taken), otherwise) = keeping(parts, self.read(depth, CONDITIONAL, place))?;
         Ok(conditional(self.alloc, test, taken, otherwise, at)?)
     }
 
+    /// The further operands of a comma expression (6.5.17).
     fn with_commas(
         &self,
         depth: usize,
@@ -181,7 +185,7 @@ impl<'t, R: Fn(Global, &[Token], usize, u8, &mut Cursor) -> Result<Expression, F
         Ok(Expression::Comma { parts, at })
     }
 
-    #[tactic(auto, using(c_cursor::proofs::Single::square_then))]
+    /// `[ expression ]` (6.5.2.1).
     fn subscripted(
         &self,
         depth: usize,
@@ -196,12 +200,37 @@ impl<'t, R: Fn(Global, &[Token], usize, u8, &mut Cursor) -> Result<Expression, F
         let at = place.at();
         place.skip();
         let (array, index) = keeping(array, self.read(depth, 0, place))?;
-        let ((array, index), _) = keeping((array, index), close_square(self.tokens, place))?;
+        let ((array, index), _) = keeping(
+            (array, index),
+            take(self.tokens, Mark::SquareCloses, place),
+        )?;
         let (array, index) = pair(self.alloc, array, index)?;
         Ok(Expression::Subscript { array, index, at })
     }
 
-    #[tactic(auto, using(c_cursor::proofs::Single::round_then))]
+    /// The arguments of a call, at least one, and the `)` after them; the `(` is at a token.
+    fn with_arguments(
+        &self,
+        depth: usize,
+        function: Boxed<Expression>,
+        at: usize,
+        place: &mut Cursor,
+    ) -> Result<Expression, Fault>
+        requires nested { ReadsExpressions self.now.depth (R.pre self.now.read) (R.post self.now.read) }
+        requires within { depth ≤ self.now.depth }
+        ensures { Reads (call_with (kinds_of self.now.tokens.now) depth function at place.old) result place.new }
+    {
+        let (function, arguments) = keeping(function, self.items(depth, place))?;
+        let closed = take(self.tokens, Mark::RoundCloses, place);
+        let ((function, arguments), _) = keeping((function, arguments), closed)?;
+        Ok(Expression::Call {
+            function,
+            arguments,
+            at,
+        })
+    }
+
+    /// `( arguments )` (6.5.2.2).
     fn called(
         &self,
         depth: usize,
@@ -216,8 +245,8 @@ impl<'t, R: Fn(Global, &[Token], usize, u8, &mut Cursor) -> Result<Expression, F
         let at = place.at();
         let function = Boxed::new(self.alloc, function)?;
         place.skip();
-        match suffix(self.tokens, place) {
-            Suffix::ClosesRound => {
+        match mark_at(self.tokens, place) {
+            Mark::RoundCloses => {
                 place.skip();
                 Ok(Expression::Call {
                     function,
@@ -225,21 +254,11 @@ impl<'t, R: Fn(Global, &[Token], usize, u8, &mut Cursor) -> Result<Expression, F
                     at,
                 })
             }
-            _ => {
-                let (function, arguments) = keeping(function, self.items(depth, place))?;
-                let ((function, arguments), _) = keeping(
-                    (function, arguments),
-                    close_round(self.tokens, place),
-                )?;
-                Ok(Expression::Call {
-                    function,
-                    arguments,
-                    at,
-                })
-            }
+            _ => self.with_arguments(depth, function, at, place),
         }
     }
 
+    /// `.name` (6.5.2.3).
     #[tactic(auto, using(c_cursor::proofs::Single::name_then))]
     fn selected(
         &self,
@@ -257,6 +276,7 @@ impl<'t, R: Fn(Global, &[Token], usize, u8, &mut Cursor) -> Result<Expression, F
         Ok(Expression::Member { object, name, at })
     }
 
+    /// `->name` (6.5.2.3).
     #[tactic(auto, using(c_cursor::proofs::Single::name_then))]
     fn pointed(
         &self,
@@ -274,6 +294,7 @@ impl<'t, R: Fn(Global, &[Token], usize, u8, &mut Cursor) -> Result<Expression, F
         Ok(Expression::PointedMember { pointer, name, at })
     }
 
+    /// `++` or `--` after an operand (6.5.2.4).
     fn stepped(
         &self,
         depth: usize,
@@ -316,9 +337,7 @@ impl<'t, R: Fn(Global, &[Token], usize, u8, &mut Cursor) -> Result<Expression, F
             Suffix::Selects => self.selected(depth, left, place),
             Suffix::Points => self.pointed(depth, left, place),
             Suffix::Steps(step) => self.stepped(depth, left, step, place),
-            Suffix::ClosesRound | Suffix::ClosesSquare | Suffix::Colons | Suffix::NoSuffix => {
-                Err(refuse(place))
-            }
+            Suffix::NoSuffix => Err(refuse(place)),
         }
     }
 

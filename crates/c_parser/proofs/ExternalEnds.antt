@@ -10,7 +10,7 @@ use Rattle.c_grammar.specs.Marks as spec
 use Rattle.c_grammar.specs.Marks.{mark_at}
 use Rattle.c_cursor.specs.declared.marks.Mark.TheVariants as mark
 use Rattle.c_cursor.specs.Bare.{bare, bare_at}
-use Rattle.c_grammar.specs.Reader.{Gives, and_then}
+use Rattle.c_grammar.specs.ReadExpressions.{Gives, and_then}
 use Rattle.c_cursor.specs.Reads.{Reads}
 use Rattle.c_grammar.specs.Readers.{declarator}
 use Rattle.c_grammar.specs.ReadTypes.{Titled}

@@ -4,7 +4,7 @@ use Rattle.c_tokens.specs.declared.token.TokenKind.{TokenKind}
 use Rattle.c_tree.specs.Places.{Place}
 use Rattle.c_grammar.specs.Kinds.{kind_at, prefix}
 use Rattle.c_grammar.specs.Marks.{mark_at}
-use Rattle.c_grammar.specs.Reader.{Refuses}
+use Rattle.c_grammar.specs.ReadExpressions.{Refuses}
 use Rattle.c_grammar.specs.ReadTypes.{all_specifiers, perhaps_with}
 use Rattle.c_grammar.specs.Readers.{read, specifiers, perhaps, struct_with, enum_with}
 use Rattle.c_grammar.specs.ReadStatements.{declaration, statement, statement_by}

@@ -9,7 +9,7 @@ use Rattle.c_tree.specs.Places.{Place}
 use Rattle.c_cursor.specs.declared.fault.Fault.{Fault}
 use Rattle.c_cursor.specs.declared.fault.Fault.TheVariants.{Syntax, NoMemory}
 use Rattle.c_grammar.specs.Kinds.{kind_at}
-use Rattle.c_grammar.specs.Reader.{Outcome, Gives, Refuses, and_then}
+use Rattle.c_grammar.specs.ReadExpressions.{Outcome, Gives, Refuses, and_then}
 use Rattle.c_grammar.specs.ReadTypes.{ListOf}
 use Rattle.c_grammar.specs.ReadText.{externals, externals_by, external, text}
 use Rattle.c_cursor.specs.Reads.{Reads}

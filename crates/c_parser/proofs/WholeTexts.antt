@@ -4,17 +4,17 @@ use Rattle.std.specs.Prelude.{Result, Ok, Err}
 use Rattle.c_tokens.specs.declared.token.Token.{Token}
 use Rattle.c_tree.specs.declared.declaration.External.{External}
 use Rattle.c_tree.specs.declared.declaration.Tree.{Tree}
-use Rattle.c_tree.specs.SpellsText.{kinds_of, Spells}
+use Rattle.c_tree.specs.SpellsText.{kinds_of, lines_of, Spells}
 use Rattle.c_grammar_laws.specs.Laws.{ReadsWhatIsSpelled, RefusesTheRest}
-use Rattle.c_grammar.specs.Reader.{Refuses}
+use Rattle.c_grammar.specs.ReadExpressions.{Refuses}
 use Rattle.c_grammar.specs.ReadText.{text}
 use Rattle.c_parser.specs.declared.parser.ParseFault.{ParseFault}
 use Rattle.c_parser.specs.declared.parser.ParseFault.TheVariants as fault
 use Rattle.c_parser.specs.Parses.{left_out, IsFirstTooDeep, IsWithin, SpellsNone, IsWhole, ReadsText}
 
-pub spelled : (law : ReadsWhatIsSpelled) (tokens : List Token) (externals : List External) → ReadsText (text (kinds_of tokens)) (Ok externals)
-    → Spells tokens (record { externals = externals })
-spelled law tokens externals read = (law tokens (record { externals = externals })).1 read
+pub spelled : (law : ReadsWhatIsSpelled) (tokens : List Token) (externals : List External) (lines : List ℕ) → ReadsText (text (kinds_of tokens)) (Ok externals)
+    → lines ≡ lines_of tokens → Spells tokens (record { externals = externals; lines = lines })
+spelled law tokens externals lines read are = (law tokens (record { externals = externals; lines = lines })).1 (read, are)
 
 pub unspelled : (law : RefusesTheRest) (tokens : List Token) → text (kinds_of tokens) ≡ Refuses → SpellsNone tokens
 unspelled law tokens refuses = (law tokens).0 refuses

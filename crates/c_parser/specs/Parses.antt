@@ -5,12 +5,11 @@ use Rattle.c_tree.specs.declared.declaration.Tree.{Tree}
 use Rattle.c_tree.specs.Places.{Place}
 use Rattle.c_tree.specs.Nesting.{is_left_out, IsFirstDeeper}
 use Rattle.c_tree.specs.SpellsText.{kinds_of, Spells}
-use Rattle.c_grammar.specs.Reader.{Outcome, Gives, Refuses}
+use Rattle.c_grammar.specs.ReadExpressions.{Outcome, Gives, Refuses}
 use Rattle.c_cursor.specs.declared.fault.Fault.{Fault}
 use Rattle.c_cursor.specs.declared.fault.Fault.TheVariants as reading
-use Rattle.c_nesting.specs.declared.depth.TheConstants.{MAX_DEPTH}
+use Rattle.c_tokens.specs.declared.limits.TheConstants.{MAX_DEPTH, MAX_NESTING}
 use Rattle.c_nesting.specs.Depth.{tree_fits}
-use Rattle.c_nesting.specs.declared.nesting.TheConstants.{LIMIT}
 use Rattle.c_parser.specs.declared.parser.ParseFault.{ParseFault}
 use Rattle.c_parser.specs.declared.parser.ParseFault.TheVariants.{LeftOut, TooDeep, Syntax, NoMemory}
 
@@ -20,7 +19,7 @@ left_out tokens = position (λ token. is_left_out token.kind) tokens
 
 -- this token is the first after which the text is nested too deep; none where there is no such token
 abbrev pub IsFirstTooDeep : List Token → Option ℕ → Type 0
-IsFirstTooDeep tokens found = IsFirstDeeper LIMIT (kinds_of tokens) found
+IsFirstTooDeep tokens found = IsFirstDeeper MAX_NESTING (kinds_of tokens) found
 
 -- nothing is left out, and nothing is nested too deep
 abbrev pub IsWithin : List Token → Type 0

@@ -6,12 +6,12 @@ ghost use Rattle.c_grammar.specs.Marks.{mark_at};
 ghost use Rattle.c_grammar.specs.ReadText as spec;
 ghost use Rattle.c_grammar.specs.ReadStatements.{declaration, block, statement, names_with, initialiser};
 ghost use Rattle.c_grammar.specs.ReadStatements as statements;
-ghost use Rattle.c_grammar.specs.Reader.{and_then};
+ghost use Rattle.c_grammar.specs.ReadExpressions.{and_then};
 ghost use Rattle.c_cursor.specs.Reads.{Reads, specified_of, titled_of};
 ghost use Rattle.c_parser.specs.Parses.{ReadsText};
 
 use crate::grammar::{block_items, declarator, declared_after, further_names, specifiers};
-use c_cursor::{Block, Cursor, Fault, Mark, Specified, Titled, mark_at, refuse, take};
+use c_cursor::{BlockScope, Cursor, Fault, Mark, Specified, Titled, mark_at, refuse, take};
 use c_tokens::Token;
 use c_tree::{Declaration, DeclaredNames, External, Externals, Specifier};
 use kv_base::Stack;
@@ -19,7 +19,7 @@ use sqlite_items::Items;
 use std::alloc::Global;
 
 /// The parameters that a body sees.
-fn parameters_of(alloc: Global, parameters: Option<Block>) -> Block
+fn parameters_of(alloc: Global, parameters: Option<BlockScope>) -> BlockScope
     ensures { result ≡ parameters_of parameters }
 {
     match parameters {

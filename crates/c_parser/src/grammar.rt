@@ -8,12 +8,13 @@ ghost use Rattle.c_grammar.specs.ReadStatements as statements;
 ghost use Rattle.c_cursor.specs.Reads.{Reads, ReadsAs, specified_of, perhaps_of, titled_of};
 ghost use Rattle.c_cursor.specs.Parts.{lines_at, constants_at};
 
-use c_cursor::{Cursor, Fault, Perhaps, Specified, Titled, refuse};
+use crate::statements::statement_over;
+use c_cursor::{Cursor, Fault, Inside, Perhaps, Specified, Titled, refuse};
 use c_declarations::Declarations;
 use c_declarators::{Declarators, TypeNames};
 use c_operands::{Operands, Suffixes};
 use c_specifiers::{Constants, Members, Specifiers};
-use c_statements::{Inside, Statements};
+use c_statements::Statements;
 use c_tokens::Token;
 use c_tree::{
     BlockItem, Declaration, Declared, DeclaredNames, EnumConstant, Expression, MemberLine,
@@ -324,7 +325,7 @@ fn any_statement(
         declaration,
         statement,
     };
-    Statements { inside }.statement(place)
+    statement_over(inside, place)
 }
 
 /// The items of a block, to its `}`.

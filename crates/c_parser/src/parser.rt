@@ -1,15 +1,15 @@
 //! The parser of whole texts.
 
 ghost use Rattle.std.specs.Prelude.{◌≡◌, ◌≤◌, ℕ, IfOk, length};
-ghost use Rattle.c_tree.specs.SpellsText.{Spells};
+ghost use Rattle.c_tree.specs.SpellsText.{Spells, lines_of};
 ghost use Rattle.c_parser.specs.Parses.{left_out, IsFirstTooDeep, IsWithin, SpellsNone, IsWhole, IsShallow};
 
 use crate::externals::text;
 use c_cursor::Fault;
 use c_grammar_laws::laws::one_tree;
-use c_nesting::{MAX_DEPTH, first_left_out, first_too_deep, fits};
-use c_tokens::{Token, Tokens};
-use c_tree::Tree;
+use c_nesting::{first_left_out, first_too_deep, fits};
+use c_tokens::{MAX_DEPTH, Token, Tokens};
+use c_tree::{TokenLines, Tree};
 use kv_base::NoMemory;
 use std::alloc::Global;
 use thiserror::Error;
@@ -21,7 +21,7 @@ pub enum ParseFault {
     /// The first token that the accepted C leaves out.
     #[error("token {at} is left out of the accepted C")]
     LeftOut { at: usize },
-    /// The first token after which the text is nested deeper than `LIMIT`.
+    /// The first token after which the text is nested deeper than `MAX_NESTING`.
     #[error("nested too deep at token {at}")]
     TooDeep { at: usize },
     /// A token that can't stand there.
@@ -66,6 +66,17 @@ pub fn parse(alloc: Global, tokens: &Tokens) -> Result<Tree, ParseFault>
     bounded(alloc, tokens)
 }
 
+/// The line of each token.
+fn lines_of(alloc: Global, tokens: &[Token]) -> Result<TokenLines, NoMemory>
+    ensures { IfOk result (λ made. made ≡ lines_of tokens.now) }
+{
+    let mut lines = TokenLines::new(alloc);
+    for token in tokens {
+        lines.push(token.line)?;
+    }
+    Ok(lines)
+}
+
 /// The tree of a text, whatever it leaves out and however deep it is nested.
 fn whole(alloc: Global, tokens: &[Token]) -> Result<Tree, ParseFault>
     ensures { IsWhole tokens.now result }
@@ -73,7 +84,10 @@ fn whole(alloc: Global, tokens: &[Token]) -> Result<Tree, ParseFault>
     // The law says that what `text` reads is what the tokens spell.
     one_tree();
     match text(alloc, tokens) {
-        Ok(externals) => Ok(Tree { externals }),
+        Ok(externals) => Ok(Tree {
+            externals,
+            lines: lines_of(alloc, tokens)?,
+        }),
         Err(Fault::Syntax { at }) => Err(ParseFault::Syntax { at }),
         Err(Fault::NoMemory) => Err(ParseFault::NoMemory),
     }

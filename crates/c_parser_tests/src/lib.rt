@@ -10,6 +10,8 @@ mod expressions;
 #[cfg(test)]
 mod limits;
 #[cfg(test)]
+mod places;
+#[cfg(test)]
 mod scopes;
 #[cfg(test)]
 mod statements;
@@ -17,7 +19,7 @@ mod statements;
 use c_lexer::{LexFault, MAX_BYTES, lex};
 use c_parser::{ParseFault, parse};
 use c_tokens::{DataModel, Token};
-use c_tree::{BlockItem, External, Statement, Tree};
+use c_tree::{BlockItem, Declarator, Declared, External, Initialiser, Statement, Tree};
 use std::alloc::{AllocError, Global};
 
 /// The word for a token.
@@ -136,6 +138,97 @@ pub fn answer(alloc: Global, text: &[u8]) -> Result<String, AllocError> {
     };
     match parse(alloc, &tokens) {
         Ok(_) => String::from_str(alloc, "accepted"),
+        Err(fault) => shown_fault(alloc, tokens.as_slice(), fault),
+    }
+}
+
+/// A token's number, with its line by the tree, after what stands there.
+fn push_place(
+    alloc: Global,
+    line: &mut String,
+    tree: &Tree,
+    word: &str,
+    at: usize,
+) -> Result<(), AllocError> {
+    let Some(of_token) = tree.lines.get(at) else {
+        return line.push_str("no token");
+    };
+    if !line.is_empty() {
+        line.push_str("; ")?;
+    }
+    let place = format!(in alloc; "{word} {at} in line {of_token}")?;
+    line.push_str(&place)
+}
+
+/// The first token of an initialiser, or of each part of one in braces.
+fn push_initialiser(
+    alloc: Global,
+    line: &mut String,
+    tree: &Tree,
+    initialiser: &Initialiser,
+) -> Result<(), AllocError> {
+    let parts = match initialiser {
+        Initialiser::Value { at, .. } => return push_place(alloc, line, tree, "value", *at),
+        Initialiser::Braces { parts, .. } => parts.as_slice(),
+    };
+    for part in parts {
+        if let Initialiser::Value { at, .. } = part {
+            push_place(alloc, line, tree, "value", *at)?;
+        }
+    }
+    Ok(())
+}
+
+/// The `...` of functions and the first tokens of initialisers.
+fn push_declared(
+    alloc: Global,
+    line: &mut String,
+    tree: &Tree,
+    declared: &Declared,
+) -> Result<(), AllocError> {
+    match declared {
+        Declared::Plain {
+            declarator: Declarator::Function {
+                variadic: Some(at),
+                ..
+            },
+        } => push_place(alloc, line, tree, "...", *at),
+        Declared::Initialised { initialiser, .. } => {
+            push_initialiser(alloc, line, tree, initialiser)
+        }
+        _ => Ok(()),
+    }
+}
+
+/// The same for all declarations of a text outside functions.
+fn shown_places(alloc: Global, tree: &Tree) -> Result<String, AllocError> {
+    let mut line = String::new(alloc);
+    for external in tree.externals.as_slice() {
+        if let External::Declared { declaration } = external {
+            for declared in declaration.names.as_slice() {
+                push_declared(alloc, &mut line, tree, declared)?;
+            }
+        }
+    }
+    Ok(line)
+}
+
+/// The numbers and lines of each `...` and of the first token of each initialiser, or why there is no tree.
+///
+/// # Errors
+///
+/// Out of memory, or a text whose tree is too deep.
+pub fn token_places(alloc: Global, text: &[u8]) -> Result<String, AllocError> {
+    if text.len() > MAX_BYTES {
+        return String::from_str(alloc, "too long");
+    }
+    let tokens = match lex(alloc, text, DataModel::Lp64) {
+        Ok(tokens) => tokens,
+        Err(LexFault::NoMemory) => return Err(AllocError),
+        Err(fault) => return format!(in alloc; "{fault}"),
+    };
+    match parse(alloc, &tokens) {
+        Ok(tree) => shown_places(alloc, &tree),
         Err(fault) => shown_fault(alloc, tokens.as_slice(), fault),
     }
 }

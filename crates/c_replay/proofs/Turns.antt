@@ -1,6 +1,6 @@
 -- One turn of the loop is one step of an execution.
 use Rattle.std.proofs.Common.{◌≡◌, ℕ, suc, refl, ap, ◌∙◌}
-use Rattle.c_model.specs.Machine.{Configuration, Answer, Next, step, after, goes_on}
+use Rattle.c_straight_model.specs.Machine.{Configuration, Answer, Next, step, after, goes_on}
 use Rattle.c_replay.specs.declared.run.RunEnd.{RunEnd}
 use Rattle.c_replay.specs.declared.run.RunEnd.TheVariants as end
 use Rattle.c_replay.specs.RunEnd.{answer_of}

@@ -1,6 +1,6 @@
 -- What the end of a run, and a step, say in the machine's terms.
 use Rattle.std.specs.Prelude.{◌≡◌, Option, Some, None, Result, Ok, Err}
-use Rattle.c_model.specs.Machine as spec
+use Rattle.c_straight_model.specs.Machine as spec
 use Rattle.c_replay.specs.declared.run.RunEnd.{RunEnd}
 use Rattle.c_replay.specs.declared.run.RunEnd.TheVariants as end
 

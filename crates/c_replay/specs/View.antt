@@ -1,5 +1,5 @@
 -- What an item of the code stands for.
-use Rattle.c_model.specs.Machine.{Item, Rest, Work, Tests, Value, Adds}
+use Rattle.c_straight_model.specs.Machine.{Item, Rest, Work, Tests, Value, Adds}
 use Rattle.c_replay.specs.declared.control.Waiting.{Waiting}
 use Rattle.c_replay.specs.declared.control.Waiting.TheVariants as w
 

@@ -1,10 +1,10 @@
 //! The items of the control stack.
 
 ghost use Rattle.std.specs.Prelude.{◌≡◌, IfOk};
-ghost use Rattle.c_model.specs.Machine as spec;
+ghost use Rattle.c_straight_model.specs.Machine as spec;
 ghost use Rattle.c_replay.specs.View.{item_of};
 
-use c_model::{Addend, BlockItem, Sum};
+use c_straight_model::{Addend, BlockItem, Sum};
 use kv_base::{NoMemory, Sequence};
 use std::marker::Model;
 
@@ -25,18 +25,18 @@ pub enum Waiting<'p> {
 
 /// An item of the control stack.
 #[derive(Drop)]
-pub struct Entry<'p> {
+pub struct ControlItem<'p> {
     pub waiting: Waiting<'p>,
 }
 
-impl<'p> Model for Entry<'p> {
-    ghost use Rattle.c_model.specs.Machine.{Item};
+impl<'p> Model for ControlItem<'p> {
+    ghost use Rattle.c_straight_model.specs.Machine.{Item};
 
     ghost Value = { Item };
 
-    ghost use Rattle.c_model.specs.contracts.BlockItem as b;
-    ghost use Rattle.c_model.specs.contracts.Sum as s;
-    ghost use Rattle.c_model.specs.contracts.Addend as a;
+    ghost use Rattle.c_straight_model.specs.contracts.BlockItem as b;
+    ghost use Rattle.c_straight_model.specs.contracts.Sum as s;
+    ghost use Rattle.c_straight_model.specs.contracts.Addend as a;
     ghost use Rattle.std.specs.Coded.{codes};
 
     ghost coded = { Prim.hlevel (codes, a.the_row.coded, s.the_row.coded, b.the_row.coded) };

@@ -1,4 +1,4 @@
-//! Runs the C machine of `c_model`, step by step.
+//! Runs the C machine of `c_straight_model`, step by step.
 #![tactic(auto)]
 
 mod control;

@@ -1,14 +1,14 @@
 //! The machine and its steps.
 
 ghost use Rattle.std.specs.Prelude.{◌≡◌, IfOk};
-ghost use Rattle.c_model.specs.Machine as spec;
+ghost use Rattle.c_straight_model.specs.Machine as spec;
 ghost use Rattle.c_replay.specs.RunEnd.{Steps};
 ghost use Rattle.c_replay.specs.View.{item_of};
 
-use crate::control::{Entry, Waiting, handed};
+use crate::control::{ControlItem, Waiting, handed};
 use crate::run::RunEnd;
 use crate::values::{Object, holds, operand_value, place_of, result_of};
-use c_model::{Addend, BlockItem, CheckKind, Program, Sum};
+use c_straight_model::{Addend, BlockItem, CheckKind, Program, Sum};
 use kv_base::{Bytes, NoMemory, Sequence, Stack};
 use std::alloc::Global;
 use std::marker::Model;
@@ -17,19 +17,19 @@ use std::marker::Model;
 #[derive(Drop)]
 pub struct Machine<'p> {
     alloc: Global,
-    control: Stack<Entry<'p>>,
+    control: Stack<ControlItem<'p>>,
     store: Sequence<Object<'p>>,
     inputs: &'p [u64],
 }
 
 impl<'p> Model for Machine<'p> {
-    ghost use Rattle.c_model.specs.Machine.{Configuration};
+    ghost use Rattle.c_straight_model.specs.Machine.{Configuration};
 
     ghost Value = { Configuration };
 
-    ghost use Rattle.c_model.specs.contracts.BlockItem as b;
-    ghost use Rattle.c_model.specs.contracts.Sum as s;
-    ghost use Rattle.c_model.specs.contracts.Addend as a;
+    ghost use Rattle.c_straight_model.specs.contracts.BlockItem as b;
+    ghost use Rattle.c_straight_model.specs.contracts.Sum as s;
+    ghost use Rattle.c_straight_model.specs.contracts.Addend as a;
     ghost use Rattle.std.specs.Coded.{codes};
 
     ghost coded = { Prim.hlevel (codes, a.the_row.coded, s.the_row.coded, b.the_row.coded) };
@@ -47,7 +47,7 @@ impl<'p> Machine<'p> {
         ensures { IfOk result (λ machine. machine ≡ spec.start program.now inputs.now) }
     {
         let mut control = Stack::new(alloc);
-        control.push(Entry {
+        control.push(ControlItem {
             waiting: Waiting::Rest(program.items.as_slice()),
         })?;
         Ok(Machine {
@@ -64,24 +64,26 @@ impl<'p> Machine<'p> {
     {
         match self.control.pop() {
             None => Ok(Some(RunEnd::Ended)),
-            Some(Entry { waiting }) => self.item_step(waiting),
+            Some(ControlItem { waiting }) => self.item_step(waiting),
         }
     }
 
+    /// Puts something to do on the stack.
     fn put(&mut self, waiting: Waiting<'p>) -> Result<Option<RunEnd>, NoMemory>
         ensures { Steps (spec.Answer.Next (spec.put (item_of waiting.entry) self.old)) result self.new }
     {
-        self.control.push(Entry { waiting })?;
+        self.control.push(ControlItem { waiting })?;
         Ok(None)
     }
 
     // Hands a value to the item that waits for it.
+    /// Hands a value to what waits for it.
     fn gives(&mut self, v: i32) -> Result<Option<RunEnd>, NoMemory>
         ensures { Steps (spec.gives v self.old) result self.new }
     {
         match self.control.pop() {
             None => Ok(None),
-            Some(Entry { waiting }) => {
+            Some(ControlItem { waiting }) => {
                 let waiting = handed(waiting, v)?;
                 self.put(waiting)
             }
@@ -89,6 +91,7 @@ impl<'p> Machine<'p> {
     }
 
     // The value of a sum is needed next.
+    /// The value of a sum is next, for what waits below.
     fn asks(&mut self, sum: &'p Sum, below: Waiting<'p>) -> Result<Option<RunEnd>, NoMemory>
         ensures { Steps (spec.asks sum.now (item_of below.entry) self.old) result self.new }
     {
@@ -97,6 +100,7 @@ impl<'p> Machine<'p> {
     }
 
     // A new object lives.
+    /// A new object of this name and value is the innermost.
     fn declares(&mut self, name: &'p Bytes, v: i32) -> Result<Option<RunEnd>, NoMemory>
         ensures { Steps (spec.Answer.Next (spec.declares name.now v self.old)) result self.new }
     {
@@ -105,6 +109,7 @@ impl<'p> Machine<'p> {
     }
 
     // The object of this name holds another value.
+    /// The object of this name has this value from now on.
     fn assigns(&mut self, name: &'p Bytes, v: i32)
         ensures { self.new ≡ spec.assigns name.now v self.old }
     {
@@ -113,6 +118,7 @@ impl<'p> Machine<'p> {
         }
     }
 
+    /// One step of an item of the body.
     fn work_step(
         &mut self,
         item: &'p BlockItem,
@@ -153,6 +159,7 @@ impl<'p> Machine<'p> {
     }
 
     // The items of a body that are left.
+    /// One step where the items that are left are next.
     fn rest_step(&mut self, left: &'p [BlockItem]) -> Result<Option<RunEnd>, NoMemory>
         ensures { Steps (spec.item_step (spec.Item.Rest left.now) self.old) result self.new }
     {
@@ -167,6 +174,7 @@ impl<'p> Machine<'p> {
     }
 
     // The addends that are left of a sum.
+    /// One step where a sum has this value so far.
     fn adds_step(&mut self, value: i32, left: &'p [Addend]) -> Result<Option<RunEnd>, NoMemory>
         ensures { Steps (spec.item_step (spec.Item.Adds value left.now) self.old) result self.new }
     {
@@ -180,6 +188,7 @@ impl<'p> Machine<'p> {
     }
 
     // An item that was taken; one that waits never stands on top.
+    /// One step of what lies on top.
     fn item_step(&mut self, waiting: Waiting<'p>) -> Result<Option<RunEnd>, NoMemory>
         ensures { Steps (spec.item_step (item_of waiting.entry) self.old) result self.new }
     {

@@ -1,11 +1,11 @@
 //! Runs of the machine.
 
 ghost use Rattle.std.specs.Prelude.{IfOk};
-ghost use Rattle.c_model.specs.Machine.{Comes};
+ghost use Rattle.c_straight_model.specs.Machine.{Comes};
 ghost use Rattle.c_replay.specs.RunEnd.{answer_of};
 
 use crate::machine::Machine;
-use c_model::{CheckKind, Program};
+use c_straight_model::{CheckKind, Program};
 use kv_base::NoMemory;
 use std::alloc::Global;
 

@@ -4,9 +4,9 @@ ghost use Rattle.std.specs.Prelude.{◌≡◌, find};
 ghost use Rattle.std.specs.Option.{option_copied};
 ghost use Rattle.kv_num.specs.declared.types.IntType.TheVariants.{Int};
 ghost use Rattle.kv_num.specs.IntType.{InRange};
-ghost use Rattle.c_model.specs.Machine as spec;
+ghost use Rattle.c_straight_model.specs.Machine as spec;
 
-use c_model::{Operand, Relation, Sign};
+use c_straight_model::{Operand, Relation, Sign};
 use kv_base::Bytes;
 use kv_num::{IntType, add, sub, wrap};
 use std::marker::Model;
@@ -19,7 +19,7 @@ pub struct Object<'p> {
 }
 
 impl<'p> Model for Object<'p> {
-    ghost use Rattle.c_model.specs.Machine as spec;
+    ghost use Rattle.c_straight_model.specs.Machine as spec;
 
     ghost Value = { spec.Object };
 
@@ -27,6 +27,7 @@ impl<'p> Model for Object<'p> {
 }
 
 impl Object<'_> {
+    /// Whether the object has this name.
     fn is_named(&self, name: &[u8]) -> bool
         ensures { result ≡ spec.is_named name.now self.now }
     {
@@ -35,6 +36,7 @@ impl Object<'_> {
 }
 
 // A number of an int's range as an int.
+/// A number of type `int`.
 fn int_of(number: i128) -> i32
     requires { InRange Int number }
     ensures { result ≡ number }
@@ -42,12 +44,14 @@ fn int_of(number: i128) -> i32
     number as i32
 }
 
+/// The innermost object of a name.
 fn object_of<'a, 'p>(name: &[u8], store: &'a [Object<'p>]) -> Option<&'a Object<'p>>
     ensures { option_copied result ≡ find (spec.is_named name.now) store.now }
 {
     store.iter().find(|object| object.is_named(name))
 }
 
+/// The value of the innermost object of a name; 0 where there is none.
 fn value_of(name: &[u8], store: &[Object<'_>]) -> i32
     ensures { result ≡ spec.value_of name.now store.now }
 {

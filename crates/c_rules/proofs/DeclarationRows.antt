@@ -5,7 +5,9 @@ use Rattle.c_tree.specs.declared.expression.Declarator.{Declarator}
 use Rattle.c_kinds.specs.declared.types.CType.{CType}
 use Rattle.c_kinds.specs.declared.typed.Fixed.TheVariants.{Number}
 use Rattle.c_kinds.specs.Types.{integer}
-use Rattle.c_kinds.specs.Values.{Answer, Gives, result}
+use Rattle.c_kinds.specs.declared.answer.Answer.{Answer}
+use Rattle.c_kinds.specs.declared.answer.Answer.TheVariants.{Gives}
+use Rattle.c_kinds.specs.Values.{result}
 use Rattle.c_rules.specs.Typing.{expression_answer, answer_of}
 use Rattle.c_rules.specs.Scopes.{State, given_at, answer_at, passes}
 use Rattle.c_rules.specs.Declarators.{Site, Built, length_at, array_with}

@@ -9,7 +9,7 @@ use Rattle.c_tree.specs.declared.expression.MemberLine.{MemberLine, out-MemberLi
 use Rattle.c_tree.specs.declared.expression.Parameter.{Parameter, out-Parameter}
 use Rattle.c_tree.specs.declared.expression.TypeName.{TypeName, out-TypeName}
 use Rattle.c_tree.specs.declared.expression.Declarator.TheOpen.{Declarator-F, EnumConstant-F, Expression-F, Member-F, Specifier-F, MemberLine-F, Parameter-F, TypeName-F}
-use Rattle.c_tree.specs.declared.expression.Declarator.TheViews.{roll-out-Declarator, roll-out-EnumConstant, roll-out-Expression, roll-out-Member, roll-out-Specifier, roll-out-MemberLine, roll-out-Parameter, roll-out-TypeName}
+use Rattle.c_tree.specs.declared.expression.Declarator.TheViews.{roll-Declarator, roll-EnumConstant, roll-Expression, roll-Member, roll-Specifier, roll-MemberLine, roll-Parameter, roll-TypeName, roll-out-Declarator, roll-out-EnumConstant, roll-out-Expression, roll-out-Member, roll-out-Specifier, roll-out-MemberLine, roll-out-Parameter, roll-out-TypeName}
 use Rattle.c_tree.specs.declared.expression.Declarator.TheFolds.{map-Declarator, para-roll-Declarator, map-EnumConstant, para-roll-EnumConstant, map-Expression, para-roll-Expression, map-Member, para-roll-Member, map-Specifier, para-roll-Specifier, map-MemberLine, para-roll-MemberLine, map-Parameter, para-roll-Parameter, map-TypeName, para-roll-TypeName}
 use Rattle.c_rules.specs.Recursion.{Nodes, of_declarator, of_constant, of_expression, of_member, of_specifier, of_line, of_parameter, of_type_name, DeclaratorOver, ConstantOver, ExpressionOver, MemberOver, SpecifierOver, LineOver, ParameterOver, TypeNameOver}
 
@@ -69,3 +69,36 @@ module _ {D C E M S L P T : Type 0} (n : Nodes D C E M S L P T) where
   pub type_name_is : (x : TypeName) → of_type_name n x ≡ n.type_name (type_name_beside (out-TypeName x))
   unfolding of_declarator of_constant of_expression of_member of_specifier of_line of_parameter of_type_name
   type_name_is x = ap (λ z. of_type_name n z) (sym (roll-out-TypeName x)) ∙ para-roll-TypeName D C E M S L P T n.declarator n.constant n.expression n.member n.specifier n.line n.parameter n.type_name (out-TypeName x)
+
+  -- the same at a layer
+  pub declarator_rolls : (l : Declarator-F Declarator EnumConstant Expression Member Specifier MemberLine Parameter TypeName) → of_declarator n (roll-Declarator l) ≡ n.declarator (declarator_beside l)
+  unfolding of_declarator of_constant of_expression of_member of_specifier of_line of_parameter of_type_name
+  declarator_rolls l = para-roll-Declarator D C E M S L P T n.declarator n.constant n.expression n.member n.specifier n.line n.parameter n.type_name l
+
+  pub constant_rolls : (l : EnumConstant-F Declarator EnumConstant Expression Member Specifier MemberLine Parameter TypeName) → of_constant n (roll-EnumConstant l) ≡ n.constant (constant_beside l)
+  unfolding of_declarator of_constant of_expression of_member of_specifier of_line of_parameter of_type_name
+  constant_rolls l = para-roll-EnumConstant D C E M S L P T n.declarator n.constant n.expression n.member n.specifier n.line n.parameter n.type_name l
+
+  pub expression_rolls : (l : Expression-F Declarator EnumConstant Expression Member Specifier MemberLine Parameter TypeName) → of_expression n (roll-Expression l) ≡ n.expression (expression_beside l)
+  unfolding of_declarator of_constant of_expression of_member of_specifier of_line of_parameter of_type_name
+  expression_rolls l = para-roll-Expression D C E M S L P T n.declarator n.constant n.expression n.member n.specifier n.line n.parameter n.type_name l
+
+  pub member_rolls : (l : Member-F Declarator EnumConstant Expression Member Specifier MemberLine Parameter TypeName) → of_member n (roll-Member l) ≡ n.member (member_beside l)
+  unfolding of_declarator of_constant of_expression of_member of_specifier of_line of_parameter of_type_name
+  member_rolls l = para-roll-Member D C E M S L P T n.declarator n.constant n.expression n.member n.specifier n.line n.parameter n.type_name l
+
+  pub specifier_rolls : (l : Specifier-F Declarator EnumConstant Expression Member Specifier MemberLine Parameter TypeName) → of_specifier n (roll-Specifier l) ≡ n.specifier (specifier_beside l)
+  unfolding of_declarator of_constant of_expression of_member of_specifier of_line of_parameter of_type_name
+  specifier_rolls l = para-roll-Specifier D C E M S L P T n.declarator n.constant n.expression n.member n.specifier n.line n.parameter n.type_name l
+
+  pub line_rolls : (l : MemberLine-F Declarator EnumConstant Expression Member Specifier MemberLine Parameter TypeName) → of_line n (roll-MemberLine l) ≡ n.line (line_beside l)
+  unfolding of_declarator of_constant of_expression of_member of_specifier of_line of_parameter of_type_name
+  line_rolls l = para-roll-MemberLine D C E M S L P T n.declarator n.constant n.expression n.member n.specifier n.line n.parameter n.type_name l
+
+  pub parameter_rolls : (l : Parameter-F Declarator EnumConstant Expression Member Specifier MemberLine Parameter TypeName) → of_parameter n (roll-Parameter l) ≡ n.parameter (parameter_beside l)
+  unfolding of_declarator of_constant of_expression of_member of_specifier of_line of_parameter of_type_name
+  parameter_rolls l = para-roll-Parameter D C E M S L P T n.declarator n.constant n.expression n.member n.specifier n.line n.parameter n.type_name l
+
+  pub type_name_rolls : (l : TypeName-F Declarator EnumConstant Expression Member Specifier MemberLine Parameter TypeName) → of_type_name n (roll-TypeName l) ≡ n.type_name (type_name_beside l)
+  unfolding of_declarator of_constant of_expression of_member of_specifier of_line of_parameter of_type_name
+  type_name_rolls l = para-roll-TypeName D C E M S L P T n.declarator n.constant n.expression n.member n.specifier n.line n.parameter n.type_name l

@@ -83,7 +83,7 @@ unfolding build count resolve add_member specify add_line take_parameter name_ty
 listed_same [] st = refl
 listed_same (p ∷ ps) st = ap (next_parameter (of_parameter resolving p st)) (λ i now. listed_same ps now i)
 
-parameters_same : (variadic : Bool) (ps : List Parameter) (st : State) → look.parameters_of look.beside variadic (map with_parameter ps) st ≡ look.parameters_of on_trees variadic ps st
+parameters_same : (variadic : Option ℕ) (ps : List Parameter) (st : State) → look.parameters_of look.beside variadic (map with_parameter ps) st ≡ look.parameters_of on_trees variadic ps st
 unfolding build count resolve add_member specify add_line take_parameter name_type
 parameters_same variadic [] st = refl
 parameters_same variadic (p ∷ []) st = ap (only_void variadic (of_parameter resolving p st)) (listed_same (p ∷ []) st)

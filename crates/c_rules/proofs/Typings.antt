@@ -10,7 +10,8 @@ use Rattle.c_tree.specs.declared.expression.Parameter.{Parameter}
 use Rattle.c_tree.specs.declared.expression.TypeName.{TypeName}
 use Rattle.c_tree.specs.declared.expression.Declarator.TheOpen.{Expression-F}
 use Rattle.c_tree.specs.declared.expression.Declarator.TheOpen.{Expression-F as e}
-use Rattle.c_kinds.specs.Values.{Answer, used}
+use Rattle.c_kinds.specs.declared.answer.Answer.{Answer}
+use Rattle.c_kinds.specs.Values.{used}
 use Rattle.c_rules.specs.Recursion.{of_expression}
 use Rattle.c_rules.specs.Typing.{Given, Answers, layout_of, is_text, with_arguments, sequence_answer, call_answer, expression_answer, typing, answer_of}
 use Rattle.c_rules.proofs.Recursion.{expression_beside, expression_is}

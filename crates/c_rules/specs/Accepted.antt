@@ -1,14 +1,17 @@
 -- Accepted and refused texts and programs.
-use Rattle.std.specs.Prelude.{◌≡◌, false, List, [], ◌++◌, Option, Some, None}
+use Rattle.std.specs.Prelude.{◌≡◌, false, List, [], ◌++◌, Option, Some, None, slice_get}
+use Rattle.std.specs.List.{All}
 use Rattle.c_tokens.specs.declared.data_model.DataModel.{DataModel}
 use Rattle.c_tree.specs.declared.expression.Expression.{Expression}
 use Rattle.c_tree.specs.declared.declaration.Tree.{Tree}
 use Rattle.c_kinds.specs.declared.types.CType.{CType}
-use Rattle.c_kinds.specs.Values.{Answer, Gives}
+use Rattle.c_kinds.specs.declared.answer.Answer.{Answer}
+use Rattle.c_kinds.specs.declared.answer.Answer.TheVariants.{Gives}
 use Rattle.c_rules.specs.declared.program.Program.{Program}
 use Rattle.c_rules.specs.declared.names.Pair.{Pair}
 use Rattle.c_rules.specs.Broken.{of_each, least}
 use Rattle.c_rules.specs.Typing.{Given, answer_of}
+use Rattle.c_rules.specs.Found.{answers_in_text}
 use Rattle.c_rules.specs.Texts.{names_of}
 use Rattle.c_rules.specs.Statements.{broken_external}
 use Rattle.c_rules.specs.Sequencing.{broken_sequencing}
@@ -37,14 +40,19 @@ Refused model tree p = least (broken_pairs model tree) ≡ Some p
 abbrev pub given_in : Program → Given
 given_in p = record { names = p.names; model = p.checks.model }
 
--- an accepted text with what its names stand for
-pub record IsAcceptedProgram (p : Program) : Type 0 where
-  pub accepted : Accepted p.checks.model p.tree
-  pub names : p.names ≡ names_of p.checks.model p.tree
-
 abbrev pub type_by : Answer → Option CType
 type_by (Gives x) = Some x.ctype
 type_by _ = None
+
+-- the table has the type of each expression of the text, at its token
+abbrev pub HasTypes : Program → Type 0
+HasTypes p = All (λ x. slice_get p.types.expressions x.at ≡ Some (type_by x.answer)) (answers_in_text (given_in p) p.tree)
+
+-- an accepted text with what its names stand for and the types of its expressions
+pub record IsAcceptedProgram (p : Program) : Type 0 where
+  pub accepted : Accepted p.checks.model p.tree
+  pub names : p.names ≡ names_of p.checks.model p.tree
+  pub types : HasTypes p
 
 -- the type of an expression of a program, before conversions
 abbrev pub type_in : Program → Expression → Option CType

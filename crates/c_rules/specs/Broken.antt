@@ -2,7 +2,9 @@
 use Rattle.std.specs.Prelude.{ℕ, nat_eq, nat_lt, Bool, ◌&&◌, ◌||◌, if◌then◌else◌, List, [], ◌∷◌, ◌++◌, Option, Some, None}
 use Rattle.c_kinds.specs.declared.typed.Typed.{Typed}
 use Rattle.c_kinds.specs.Layouts.{Layout}
-use Rattle.c_kinds.specs.Values.{Answer, Gives, Breaks, Nothing, used}
+use Rattle.c_kinds.specs.declared.answer.Answer.{Answer}
+use Rattle.c_kinds.specs.declared.answer.Answer.TheVariants.{Gives, Breaks, Nothing}
+use Rattle.c_kinds.specs.Values.{used}
 use Rattle.c_rules.specs.declared.names.Pair.{Pair}
 
 abbrev pub pair : ℕ → ℕ → Pair
@@ -21,11 +23,11 @@ broken_in Nothing = []
 abbrev pub broken_using : Layout → Answer → (Typed → Answer) → List Pair
 broken_using l x f = broken_in (used l x f)
 
-abbrev pub of_each : {A : Type 0} → (A → List Pair) → List A → List Pair
+abbrev pub of_each : {A X : Type 0} → (A → List X) → List A → List X
 of_each f [] = []
 of_each f (x ∷ xs) = f x ++ of_each f xs
 
-abbrev pub of_option : {A : Type 0} → (A → List Pair) → Option A → List Pair
+abbrev pub of_option : {A X : Type 0} → (A → List X) → Option A → List X
 of_option f None = []
 of_option f (Some x) = f x
 

@@ -5,7 +5,9 @@ use Rattle.c_kinds.specs.declared.types.Signature.{Signature}
 use Rattle.c_kinds.specs.declared.typed.Typed.{Typed}
 use Rattle.c_kinds.specs.Types.{is_scalar, is_integer}
 use Rattle.c_kinds.specs.Layouts.{Layout}
-use Rattle.c_kinds.specs.Values.{Answer, Gives, Breaks, Nothing, used}
+use Rattle.c_kinds.specs.declared.answer.Answer.{Answer}
+use Rattle.c_kinds.specs.declared.answer.Answer.TheVariants.{Gives, Breaks, Nothing}
+use Rattle.c_kinds.specs.Values.{used}
 use Rattle.c_kinds.specs.Casts.{fits}
 use Rattle.c_rules.specs.declared.names.Meaning.{Meaning}
 use Rattle.c_rules.specs.declared.names.Meaning.TheVariants as meaning

@@ -20,7 +20,7 @@ use Rattle.c_rules.specs.declared.names.ScopeEntry.{ScopeEntry}
 use Rattle.c_rules.specs.declared.names.Pair.{Pair}
 use Rattle.c_rules.specs.Calls.{is_some}
 use Rattle.c_rules.specs.Scopes.{State, find, find_here, is_at_file, is_among, note, note_if, note_all, mean, declare, link, with_object}
-use Rattle.c_rules.specs.KnownFunctions.{known_named, is_known_signature, may_have_body}
+use Rattle.c_rules.specs.KnownFunctions.{known_named, is_known, is_known_in_file, is_known_signature, may_have_body}
 use Rattle.c_rules.specs.Declarators.{Built, holds, is_direct}
 
 -- how a name is declared: its storage, whether a value is given, and whether a body follows
@@ -38,9 +38,6 @@ abbrev pub may_be_same : Option CType → Option CType → Bool
 may_be_same (Some t) (Some u) = same t u
 may_be_same _ _ = true
 
-abbrev pub is_known : State → List ℕ → Bool
-is_known st name = is_some (known_named st.model name)
-
 -- ---- typedef names (6.7.8): the same type may be named again in the same block (6.7p3)
 
 abbrev pub typedef_again : ℕ → Option CType → Declares → State → State
@@ -50,7 +47,7 @@ typedef_again at t _ st = note at 4 st
 -- rule 23 at a known function's name in the file
 abbrev pub declares_typedef : List ℕ → ℕ → Bool → Option CType → State → State
 declares_typedef name at is_unsaid t st =
-    let now = note_if (is_at_file st && is_known st name) at 23 st in
+    let now = note_if (is_known_in_file st name) at 23 st in
     elim (find_here now.ordinary name) as (λ _. State) [ None ↦ declare name (declares.Typedef t is_unsaid) now | Some entry ↦ typedef_again at t entry.declares now ]
 
 -- ---- functions (6.7.6.3, 6.9.1)
@@ -103,9 +100,12 @@ function_outside name how g first at st = elim (find st.linked name) as (λ _. S
   | Some entry ↦ declare name entry.declares (function_again how g first at entry.declares st)
 ]
 
+abbrev pub has_other_type : Bool → KnownFunction → Option Signature → Bool
+has_other_type is_unsaid function None = false
+has_other_type is_unsaid function (Some g) = not (is_known_signature function is_unsaid g)
+
 abbrev pub is_misdeclared : How → Bool → KnownFunction → Option Signature → Bool
-is_misdeclared how is_unsaid function None = false
-is_misdeclared how is_unsaid function (Some g) = not (is_known_signature function is_unsaid g) || (how.has_body && not (may_have_body function))
+is_misdeclared how is_unsaid function g = has_other_type is_unsaid function g || (how.has_body && not (may_have_body function))
 
 abbrev pub signature_at : State → Option ℕ → Option Signature
 signature_at st None = None

@@ -16,7 +16,9 @@ use Rattle.c_kinds.specs.declared.typed.Fixed.TheVariants.{NoValue, Number}
 use Rattle.c_kinds.specs.declared.typed.Typed.{Typed}
 use Rattle.c_kinds.specs.Types.{plain, shape_of, inner, derived_from, pointer_to, unqualified, is_void, is_array, is_function, is_integer, is_rows, signature_number}
 use Rattle.c_kinds.specs.Layouts.{is_incomplete, cell_count}
-use Rattle.c_kinds.specs.Values.{Answer, Gives, used}
+use Rattle.c_kinds.specs.declared.answer.Answer.{Answer}
+use Rattle.c_kinds.specs.declared.answer.Answer.TheVariants.{Gives}
+use Rattle.c_kinds.specs.Values.{used}
 use Rattle.c_rules.specs.declared.names.Declares.TheVariants as declares
 use Rattle.c_rules.specs.declared.names.Meaning.TheVariants as meaning
 use Rattle.c_rules.specs.declared.names.Object.{Object}
@@ -53,10 +55,6 @@ pub record Built : Type 0 where
   pub parameters : Option Block
   -- and the `...` of these
   pub dots : Option ℕ
-
--- (the tree has no place of the `...`: the bracket of the parameters stands for it)
-abbrev pub dots_at : Bool → ℕ → Option ℕ
-dots_at variadic at = if variadic then Some at else None
 
 abbrev pub name_built : Option CType → Option (List ℕ) → ℕ → State → Built
 name_built t name at st = record { state = st; ctype = t; name = name; at = at; pointers = []; in_definition = []; parameters = None; dots = None }
@@ -246,5 +244,5 @@ next_parameter p rest =
     record { state = more.state; types = p.ctype ∷ more.types; pointers = p.pointers ++ more.pointers; in_definition = p.in_definition ++ more.in_definition }
 
 -- `(void)` has no parameters (6.7.6.3p10)
-abbrev pub only_void : Bool → ParameterBuilt → Listed → Listed
-only_void variadic p others = if p.is_nothing && not variadic then no_parameters p else others
+abbrev pub only_void : Option ℕ → ParameterBuilt → Listed → Listed
+only_void variadic p others = if p.is_nothing && not (is_some variadic) then no_parameters p else others

@@ -12,8 +12,11 @@ use Rattle.c_tree.specs.declared.expression.Declarator.{Declarator}
 use Rattle.c_tree.specs.declared.expression.Declarator.TheOpen.{Declarator-F, EnumConstant-F, Expression-F, Member-F, Specifier-F}
 use Rattle.c_tree.specs.declared.expression.Declarator.TheOpen.{Declarator-F as d, EnumConstant-F as c, Expression-F as e, Member-F as m, Specifier-F as s}
 use Rattle.c_kinds.specs.Types.{is_array}
-use Rattle.c_kinds.specs.Values.{Answer, Gives}
-use Rattle.c_kinds.specs.Operands.{Family, Logical, family}
+use Rattle.c_kinds.specs.declared.answer.Answer.{Answer}
+use Rattle.c_kinds.specs.declared.answer.Answer.TheVariants.{Gives}
+use Rattle.c_kinds.specs.declared.family.Family.{Family}
+use Rattle.c_kinds.specs.declared.family.Family.TheVariants.{Logical}
+use Rattle.c_kinds.specs.Operands.{family}
 use Rattle.c_rules.specs.declared.names.Meaning.{Meaning}
 use Rattle.c_rules.specs.declared.names.Meaning.TheVariants as meaning
 use Rattle.c_rules.specs.Recursion.{Nodes, of_expression, of_specifier, of_declarator}

@@ -21,7 +21,9 @@ use Rattle.c_kinds.specs.declared.typed.Fixed.{Fixed}
 use Rattle.c_kinds.specs.declared.typed.Fixed.TheVariants.{Varies, NoValue, Breaks}
 use Rattle.c_kinds.specs.Types.{shape_of, inner, is_array}
 use Rattle.c_kinds.specs.Layouts.{members_of}
-use Rattle.c_kinds.specs.Values.{Answer, Gives, used}
+use Rattle.c_kinds.specs.declared.answer.Answer.{Answer}
+use Rattle.c_kinds.specs.declared.answer.Answer.TheVariants.{Gives}
+use Rattle.c_kinds.specs.Values.{used}
 use Rattle.c_kinds.specs.Casts.{fits}
 use Rattle.c_rules.specs.declared.names.Meaning.{Meaning}
 use Rattle.c_rules.specs.declared.names.Meaning.TheVariants as meaning
@@ -124,9 +126,9 @@ module _ {I : Type 0} where
 
   -- a string for an array breaks the rule of initialisers, and not that of strings
   abbrev pub initialiser_pairs : Given → (I → Initialised → List Pair) → Initialiser-F I → Initialised → List Pair
-  initialiser_pairs g w (i.Value v) x =
+  initialiser_pairs g w (i.Value v at) x =
       if is_text v && holds is_array x.ctype then pair x.equals 21 ∷ []
-      else broken_value g v is_used ++ one_value x x.ctype (used (layout_of g) (answer_of g v false) is_used)
+      else broken_value g v is_used ++ one_value (record x { first = at }) x.ctype (used (layout_of g) (answer_of g v false) is_used)
   initialiser_pairs g w (i.Braces ps at) x = parts_pairs g w x (at + 1) x.ctype ps
 
 unfoldable pub broken_initialiser : Given → Initialiser → Initialised → List Pair

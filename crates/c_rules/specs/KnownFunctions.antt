@@ -11,6 +11,8 @@ use Rattle.c_kinds.specs.Integers.{long_of, unsigned_long_of}
 use Rattle.c_rules.specs.declared.names.KnownFunction.{KnownFunction}
 use Rattle.c_rules.specs.declared.names.KnownFunction.TheVariants as known
 use Rattle.c_rules.specs.Typing.{known_result}
+use Rattle.c_rules.specs.Calls.{is_some}
+use Rattle.c_rules.specs.Scopes.{State, is_at_file}
 
 -- ---- names
 
@@ -50,6 +52,13 @@ unfoldable pub known_named : DataModel → List ℕ → Option KnownFunction
 known_named model name =
     first_known (row_named other_functions name)
     (first_known (input_of model (behind (codes "__VERIFIER_nondet_") name)) (input_of model (behind (codes "nondet_") name)))
+
+abbrev pub is_known : State → List ℕ → Bool
+is_known st name = is_some (known_named st.model name)
+
+-- a known function's name that is declared in the file, where only the function may have it
+abbrev pub is_known_in_file : State → List ℕ → Bool
+is_known_in_file st name = is_at_file st && is_known st name
 
 -- ---- declarations: qualifiers of the result don't matter
 

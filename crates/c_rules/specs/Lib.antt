@@ -5,6 +5,7 @@ pub mod Declarations
 pub mod Declarators
 pub mod Effects
 pub mod Expressions
+pub mod Found
 pub mod Initialisers
 pub mod KnownFunctions
 pub mod Laws
@@ -17,6 +18,11 @@ pub mod Specifiers
 pub mod Statements
 pub mod Tags
 pub mod Texts
+pub mod Told
 pub mod Typing
 pub mod Worked
 pub mod WorkedDeclarations
+pub mod WorkedEffects
+pub mod WorkedInitialisers
+pub mod WorkedNames
+pub mod WorkedStatements

@@ -1,6 +1,6 @@
 -- What looking at each part of a declaration gives, from the state before it, and what is made of parts that were looked at.
 -- Sections are those of ISO/IEC 9899:2011.
-use Rattle.std.specs.Prelude.{ℕ, Bool, true, false, if◌then◌else◌, List, ◌++◌, Option, Some, None}
+use Rattle.std.specs.Prelude.{ℕ, Bool, true, false, if◌then◌else◌, List, ◌++◌, Option, Some, None, is_some}
 use Rattle.c_tree.specs.declared.expression.Expression.{Expression}
 use Rattle.c_tree.specs.declared.expression.Specifier.{Specifier}
 use Rattle.c_tree.specs.declared.expression.Declarator.{Declarator}
@@ -8,7 +8,7 @@ use Rattle.c_kinds.specs.declared.types.CType.{CType}
 use Rattle.c_rules.specs.Scopes.{State, leave, block_of}
 use Rattle.c_rules.specs.Specifiers.{Specified, with_other, in_state, Named}
 use Rattle.c_rules.specs.Tags.{tag_at, begins_struct, ends_struct, struct_type, Counted, MemberSite}
-use Rattle.c_rules.specs.Declarators.{Needed, OfParameter, Site, Built, dots_at, is_direct, signature_of, all_types, function_by, ParameterBuilt, parameter_built, Listed}
+use Rattle.c_rules.specs.Declarators.{Needed, OfParameter, Site, Built, is_direct, signature_of, all_types, function_by, ParameterBuilt, parameter_built, Listed}
 use Rattle.c_rules.specs.declared.names.Pair.{Pair}
 use Rattle.c_rules.specs.Broken.{least}
 
@@ -81,15 +81,15 @@ abbrev pub line_with : ℕ → ℕ → Named → (MemberSite → State → State
 line_with n first k members = members (record { number = n; ctype = k.ctype; first = first }) k.state
 
 -- a function with these parameters, which are a block of their own (6.2.1p4)
-abbrev pub function_with : AtDeclarator → Declarator → Bool → ℕ → Site → Option CType → Listed → Built
+abbrev pub function_with : AtDeclarator → Declarator → Option ℕ → ℕ → Site → Option CType → Listed → Built
 function_with inside form variadic at site t list =
-    let made = function_by (signature_of t (all_types list.types) variadic) (leave list.state) in
+    let made = function_by (signature_of t (all_types list.types) (is_some variadic)) (leave list.state) in
     let b = inside site made.ctype made.state in
     record b {
       pointers = list.pointers ++ b.pointers;
       in_definition = list.in_definition ++ b.in_definition;
       parameters = if is_direct form then Some (block_of list.state) else b.parameters;
-      dots = if is_direct form then dots_at variadic at else b.dots;
+      dots = if is_direct form then variadic else b.dots;
     }
 
 abbrev pub parameter_with : AtDeclarator → ℕ → Named → ParameterBuilt

@@ -157,11 +157,11 @@ module _ {D C E M S L P T : Type 0} where
   listed w [] st = record { state = st; types = []; pointers = []; in_definition = [] }
   listed w (p ∷ ps) st = next_parameter (w.parameter p st) (listed w ps)
 
-  abbrev pub parameters_of : Looks D C E M S L P T → Bool → List P → State → Listed
+  abbrev pub parameters_of : Looks D C E M S L P T → Option ℕ → List P → State → Listed
   parameters_of w variadic (p ∷ []) st = only_void variadic (w.parameter p st) (listed w (p ∷ []) st)
   parameters_of w variadic ps st = listed w ps st
 
-  abbrev pub function_node : Looks D C E M S L P T → D → List P → Bool → ℕ → Site → Option CType → State → Built
+  abbrev pub function_node : Looks D C E M S L P T → D → List P → Option ℕ → ℕ → Site → Option CType → State → Built
   function_node w inside ps variadic at site t st =
       function_with (w.declarator inside) (w.form inside) variadic at site t (parameters_of w variadic ps (enter (note_if (holds is_no_result t) site.first 24 st)))
 

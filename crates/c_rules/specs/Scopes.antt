@@ -5,7 +5,7 @@ use Rattle.std.specs.Str.{bytes_eq}
 use Rattle.c_tokens.specs.declared.data_model.DataModel.{DataModel}
 use Rattle.c_tree.specs.declared.expression.Expression.{Expression}
 use Rattle.c_kinds.specs.Layouts.{Layout}
-use Rattle.c_kinds.specs.Values.{Answer}
+use Rattle.c_kinds.specs.declared.answer.Answer.{Answer}
 use Rattle.c_rules.specs.declared.names.Declares.{Declares}
 use Rattle.c_rules.specs.declared.names.ScopeEntry.{ScopeEntry}
 use Rattle.c_rules.specs.declared.names.Meaning.{Meaning}

@@ -59,7 +59,7 @@ optional_expression g (Some x) = full_expression g x
 
 -- the parts in braces aren't asked against each other
 abbrev pub initialiser_done : {I : Type 0} → Given → (I → Done) → Initialiser-F I → Done
-initialiser_done g w (i.Value x) = full_expression g x
+initialiser_done g w (i.Value x at) = full_expression g x
 initialiser_done g w (i.Braces parts at) = done_all w parts
 
 unfoldable pub done_in_initialiser : Given → Initialiser → Done
@@ -167,9 +167,17 @@ entered [] = []
 entered (Calls f ∷ xs) = f ∷ entered xs
 entered (_ ∷ xs) = entered xs
 
--- a path through all functions is no longer than there are functions
+-- the functions that have bodies
+abbrev pub with_body : Option ℕ → List ℕ
+with_body None = []
+with_body (Some f) = f ∷ []
+
+abbrev pub with_bodies : List DoneIn → List ℕ
+with_bodies xs = flat_map (λ x. with_body x.function) xs
+
+-- a path on which each function has a body and none comes twice is no longer than there are such functions
 abbrev pub entered_from : Text → ℕ → List ℕ
-entered_from x f = reached (length x.names.functions) (λ n. entered (own_accesses x.done n)) f
+entered_from x f = reached (length (with_bodies x.done)) (λ n. entered (own_accesses x.done n)) f
 
 abbrev pub is_static : Option Object → Bool
 is_static None = false
@@ -231,10 +239,14 @@ abbrev pub answered : Text → Question → List Pair
 answered x (Between at xs ys) = pair_if (clash x xs ys) at 17
 answered x (Among at target direct) = pair_if (list_any (same_target x target) direct) at 17
 
+-- the functions that a function calls
+abbrev pub called_in : Text → ℕ → List ℕ
+called_in x n = callees (own_calls x.done n)
+
 -- rule 6: a call from which its own function is reached by calls
 abbrev pub leads_back : Text → Option ℕ → Called → List Pair
 leads_back x None c = []
-leads_back x (Some f) c = pair_if (is_among (reached (length x.names.functions) (λ n. callees (own_calls x.done n)) c.callee) f) c.at 6
+leads_back x (Some f) c = pair_if (is_among (reached (length (with_bodies x.done)) (called_in x) c.callee) f) c.at 6
 
 abbrev pub broken_by : Text → DoneIn → List Pair
 broken_by x d = flat_map (answered x) d.done.asked.questions ++ flat_map (leads_back x d.function) d.done.asked.calls

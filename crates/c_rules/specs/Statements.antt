@@ -22,7 +22,9 @@ use Rattle.c_kinds.specs.declared.typed.Fixed.TheVariants.{NoValue, Number}
 use Rattle.c_kinds.specs.declared.typed.Typed.{Typed}
 use Rattle.c_kinds.specs.Types.{shape_of, is_scalar, is_integer, is_void}
 use Rattle.c_kinds.specs.Integers.{promoted}
-use Rattle.c_kinds.specs.Values.{Answer, Gives, unless, used}
+use Rattle.c_kinds.specs.declared.answer.Answer.{Answer}
+use Rattle.c_kinds.specs.declared.answer.Answer.TheVariants.{Gives}
+use Rattle.c_kinds.specs.Values.{unless, used}
 use Rattle.c_kinds.specs.Casts.{fits}
 use Rattle.c_rules.specs.declared.names.Meaning.{Meaning}
 use Rattle.c_rules.specs.declared.names.Meaning.TheVariants as meaning

@@ -11,7 +11,9 @@ use Rattle.c_kinds.specs.declared.typed.Fixed.TheVariants.{Number}
 use Rattle.c_kinds.specs.Types.{plain, integer, is_void, is_function}
 use Rattle.c_kinds.specs.Integers.{is_in_range}
 use Rattle.c_kinds.specs.Layouts.{is_incomplete, has_const, cell_count, members_of, member_in}
-use Rattle.c_kinds.specs.Values.{Answer, Gives, used}
+use Rattle.c_kinds.specs.declared.answer.Answer.{Answer}
+use Rattle.c_kinds.specs.declared.answer.Answer.TheVariants.{Gives}
+use Rattle.c_kinds.specs.Values.{used}
 use Rattle.c_rules.specs.declared.names.Declares.{Declares}
 use Rattle.c_rules.specs.declared.names.Declares.TheVariants as declares
 use Rattle.c_rules.specs.declared.names.Meaning.TheVariants as meaning
@@ -19,6 +21,7 @@ use Rattle.c_rules.specs.declared.names.ScopeEntry.{ScopeEntry}
 use Rattle.c_rules.specs.Broken.{broken_using}
 use Rattle.c_rules.specs.Calls.{is_some}
 use Rattle.c_rules.specs.Scopes.{State, find, find_here, layout_at, note, note_if, note_all, mean, declare, declare_tag}
+use Rattle.c_rules.specs.KnownFunctions.{is_known_in_file}
 use Rattle.c_rules.specs.Specifiers.{Specified, with_other, in_state}
 use Rattle.c_rules.specs.Declarators.{Built, holds, as_value}
 
@@ -141,10 +144,11 @@ abbrev pub one_more : Option ℤ → Option ℤ
 one_more None = None
 one_more (Some n) = Some (n +ℤ pos 1)
 
--- rule 25 at the value, or at the name, where it is no int; the name is declared from the end of its line on (6.2.1p7)
+-- rule 23 at a known function's name in the file, rule 25 at the value, or at the name, where it is no int; the name is declared from the end of its line on (6.2.1p7)
 abbrev pub counts : List ℕ → ℕ → ℕ → Option ℤ → State → Counted
 counts name at place n st = record {
-  state = declare name (declares.Constant (in_int n)) (mean at (meaning.Constant (in_int n)) (note_if (is_some (find_here st.ordinary name)) at 4 (note_if (is_outside_int n) place 25 st)));
+  state = declare name (declares.Constant (in_int n)) (mean at (meaning.Constant (in_int n))
+      (note_if (is_some (find_here st.ordinary name)) at 4 (note_if (is_known_in_file st name) at 23 (note_if (is_outside_int n) place 25 st))));
   next = one_more (in_int n);
 }
 

@@ -1,6 +1,6 @@
 -- What declarations, statements and whole texts declare, and what the names of a text stand for. Sections are those of
 -- ISO/IEC 9899:2011.
-use Rattle.std.specs.Prelude.{ℕ, ◌-◌, ◌^◌, nat_eq, take, drop, map, Bool, true, false, not, ◌&&◌, ◌||◌, List, [], ◌∷◌, ◌++◌, length, codes, Option, Some, None, slice_get}
+use Rattle.std.specs.Prelude.{ℕ, nat_eq, take, drop, map, Bool, true, false, not, ◌&&◌, ◌||◌, List, [], ◌∷◌, ◌++◌, length, codes, Option, Some, None, slice_get}
 use Rattle.c_tokens.specs.declared.data_model.DataModel.{DataModel}
 use Rattle.c_tree.specs.declared.expression.Expression.{Expression}
 use Rattle.c_tree.specs.declared.expression.Specifier.{Specifier}
@@ -47,7 +47,7 @@ resolve_parts w [] st = st
 resolve_parts w (x ∷ xs) st = resolve_parts w xs (w x st)
 
 abbrev pub initialiser_node : {I : Type 0} → (I → State → State) → Initialiser-F I → State → State
-initialiser_node w (i.Value value) st = resolve value st
+initialiser_node w (i.Value value at) st = resolve value st
 initialiser_node w (i.Braces parts at) st = resolve_parts w parts st
 
 unfoldable pub resolve_initialiser : Initialiser → State → State
@@ -232,7 +232,7 @@ all_externals (x ∷ xs) st = all_externals xs (one_external x st)
 
 -- after the last token of a text
 abbrev pub end_of : Tree → ℕ
-end_of tree = 2 ^ 64 - 1
+end_of tree = length tree.lines
 
 abbrev pub function_is_defined : Option Function → Bool
 function_is_defined None = false

@@ -14,9 +14,11 @@ use Rattle.c_kinds.specs.declared.types.Signature.{Signature}
 use Rattle.c_kinds.specs.declared.typed.Fixed.TheVariants.{Varies, Number, At}
 use Rattle.c_kinds.specs.declared.typed.Fixed.{Fixed}
 use Rattle.c_kinds.specs.declared.typed.Typed.{Typed}
-use Rattle.c_kinds.specs.Types.{integer, void, unqualified}
+use Rattle.c_kinds.specs.Types.{integer, void, unqualified, is_rows}
 use Rattle.c_kinds.specs.Layouts.{Layout, flat}
-use Rattle.c_kinds.specs.Values.{Answer, Gives, Breaks, Nothing, and_then, part, used, result, place}
+use Rattle.c_kinds.specs.declared.answer.Answer.{Answer}
+use Rattle.c_kinds.specs.declared.answer.Answer.TheVariants.{Gives, Breaks, Nothing}
+use Rattle.c_kinds.specs.Values.{and_then, unless, part, used, result, place}
 use Rattle.c_kinds.specs.Operands.{unary_answer, address_answer, binary_answer, sizeof_answer, sizeof_type_answer}
 use Rattle.c_kinds.specs.Casts.{cast_answer, assign_answer, step_answer, conditional_answer, comma_answer}
 use Rattle.c_kinds.specs.Elements.{subscript_answer, member_answer, pointed_member_answer}
@@ -125,13 +127,16 @@ call_by names u name at m = and_then (name_by names u name m) (λ _. Breaks 12 a
 
 -- ---- type names (6.7.7)
 
+-- a type name whose parts break a rule names no type; where none stands, nothing is declared
 abbrev pub cast_to : ℕ → Option Meaning → Typed → Answer
 cast_to at (Some (meaning.Type (Some t) star)) v = cast_answer at star t v
-cast_to at _ v = Nothing
+cast_to at (Some (meaning.Type None star)) v = Nothing
+cast_to at _ v = Breaks 3 at
 
 abbrev pub sizeof_named : Layout → ℕ → Option Meaning → Answer
 sizeof_named l at (Some (meaning.Type (Some t) star)) = sizeof_type_answer l at star t
-sizeof_named l at _ = Nothing
+sizeof_named l at (Some (meaning.Type None star)) = Nothing
+sizeof_named l at _ = Breaks 3 at
 
 abbrev pub is_function_meaning : Option Meaning → Bool
 is_function_meaning (Some (meaning.Function n)) = true
@@ -149,14 +154,16 @@ abbrev pub unary_node : Layout → UnaryOperator → ℕ → Answer → Answer
 unary_node l unary.Address at x = part x (λ v. address_answer at v)
 unary_node l operator at x = used l x (λ v. unary_answer l operator at v)
 
--- a target and a value (6.5.16)
+-- a target and a value (6.5.16); a target that is an array of arrays is left out, whatever the value is
 abbrev pub assign_node : Layout → AssignOperator → ℕ → Answer → Answer → Answer
-assign_node l operator at target value = part target (λ x. used l value (λ v. assign_answer l operator at x v))
+assign_node l operator at target value = part target (λ x. unless (is_rows x.ctype) 9 x.named_at (used l value (λ v. assign_answer l operator at x v)))
 
--- a call of a function by its name; `arguments` goes on where each argument has a value, strings left out or not
+-- a call by a name: what the name breaks itself comes first, then its arguments, then what the call breaks; `arguments` goes on
+-- where each argument has a value, strings left out or not
 abbrev pub named_call : Given → Bool → (Bool → Answer → Answer) → ℕ → ℕ → Option Meaning → Answer
 named_call g u arguments name at m =
-    if is_function_meaning m then arguments (is_assert_fail g.names m) (call_by g.names u name at m) else call_by g.names u name at m
+    let called = arguments (is_assert_fail g.names m) (call_by g.names u name at m) in
+    if is_function_meaning m then called else and_then (name_by g.names u name m) (λ _. called)
 
 -- a call, of a function by its name or of what is none
 abbrev pub call_answer : Given → Bool → Expression → Answer → (Bool → Answer → Answer) → ℕ → Answer
@@ -172,9 +179,9 @@ module _ {E : Type 0} where
   with_arguments l w tree texts (x ∷ xs) answer =
       if texts && is_text (tree x) then with_arguments l w tree texts xs answer else used l (w x) (λ _. with_arguments l w tree texts xs answer)
 
-  -- each part is a value, and the last one is that of the whole (6.5.17)
+  -- each part is a value, and the last one is that of the whole (6.5.17); no parts are no operands
   abbrev pub sequence_answer : Layout → (E → Answer) → ℕ → List E → Answer
-  sequence_answer l w at [] = Nothing
+  sequence_answer l w at [] = Breaks 12 at
   sequence_answer l w at (x ∷ []) = used l (w x) (λ v. comma_answer at v)
   sequence_answer l w at (x ∷ (y ∷ rest)) = used l (w x) (λ _. sequence_answer l w at (y ∷ rest))
 

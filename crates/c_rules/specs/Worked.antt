@@ -11,7 +11,8 @@ use Rattle.c_kinds.specs.declared.types.CType.{CType}
 use Rattle.c_kinds.specs.declared.types.Struct.{Struct}
 use Rattle.c_kinds.specs.declared.typed.Fixed.TheVariants as constant
 use Rattle.c_kinds.specs.Types.{integer, void, plain, pointer_to}
-use Rattle.c_kinds.specs.Values.{Gives, Breaks, Nothing, result}
+use Rattle.c_kinds.specs.declared.answer.Answer.TheVariants.{Gives, Breaks, Nothing}
+use Rattle.c_kinds.specs.Values.{result}
 use Rattle.c_rules.specs.declared.names.KnownFunction.TheVariants as known
 use Rattle.c_rules.specs.declared.names.Meaning.{Meaning}
 use Rattle.c_rules.specs.declared.names.Meaning.TheVariants as meaning
@@ -70,12 +71,13 @@ pub record WorkedAnswers : Type 0 where
   -- `y`, which nothing defines, and `sizeof y`
   pub undefined : answer_of (means (the_object 3) None None) (x_at 0) false ≡ Breaks 3 0
   pub size_of_undefined : answer_of (means None (the_object 3) None) (tree.SizeofExpression (x_at 1) 0) false ≡ Gives (result (integer ULong) (constant.Number (pos 4)) 0 1)
-  -- `f`, `sizeof f`, `f(x)`, `f(z)`, `x(1)`
+  -- `f`, `sizeof f`, `f(x)`, `f(z)`, `x(1)`, `x(z)`
   pub function_as_a_value : answer_of (means f_meant None None) (x_at 0) false ≡ Breaks 9 0
   pub size_of_a_function : answer_of (means None f_meant None) (tree.SizeofExpression (x_at 1) 0) false ≡ Breaks 16 0
   pub call : answer_of (means f_meant None (the_object 0)) (tree.Call (x_at 0) (x_at 2 ∷ []) 1) false ≡ Gives (result int constant.Varies 0 1)
   pub call_of_undeclared : answer_of (means f_meant None None) (tree.Call (x_at 0) (x_at 2 ∷ []) 1) false ≡ Nothing
   pub call_of_an_object : answer_of (means (the_object 0) None None) (tree.Call (x_at 0) (number_at 1 2 ∷ []) 1) false ≡ Breaks 12 1
+  pub object_on_undeclared : answer_of (means (the_object 0) None None) (tree.Call (x_at 0) (x_at 2 ∷ []) 1) false ≡ Nothing
   -- `__assert_fail("a")`, `"a"`
   pub string_argument : answer_of (means fails_meant None None) (tree.Call (x_at 0) (tree.Text 2 ∷ []) 1) false ≡ Gives (result void constant.Varies 0 1)
   pub string : answer_of (means None None None) (tree.Text 0) false ≡ Breaks 22 0

@@ -7,7 +7,10 @@ mod names;
 mod program;
 
 pub use checks::{CheckKind, Checks, Goal};
-pub use laws::{answers_go_by_parts, one_answer, rules_are_as_worked};
+pub use laws::{
+    answers_go_by_parts, calls_descend, expressions_have_types, initialisers_fit,
+    names_have_meanings, one_answer, rules_are_as_worked,
+};
 pub use names::{
     Declares, Function, Functions, KnownFunction, Meaning, Names, Object, Objects, Pair, Pairs,
     ScopeEntry,

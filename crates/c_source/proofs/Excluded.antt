@@ -3,19 +3,19 @@ use Rattle.std.proofs.Common.{◌≡◌, ℕ, ◌+◌, ◌<◌, ◌≤◌, List,
 use Rattle.c_tokens.specs.declared.token.Token.{Token}
 use Rattle.c_tokens.specs.declared.token.TokenKind.{TokenKind}
 use Rattle.c_tokens.specs.declared.data_model.DataModel.TheVariants.{Lp64}
-use Rattle.c_model.specs.declared.program.BlockItem.{BlockItem}
-use Rattle.c_model.specs.declared.program.Program.{Program}
+use Rattle.c_straight_model.specs.declared.program.BlockItem.{BlockItem}
+use Rattle.c_straight_model.specs.declared.program.Program.{Program}
 use Rattle.c_tokens.specs.Reading.{Fault, Reading, Read, Fails, reading}
 use Rattle.c_tree.specs.declared.declaration.Tree.{Tree}
 use Rattle.c_tree.specs.Nesting.{depth_after}
 use Rattle.c_tree.specs.SpellsText.{kinds_of, Spells}
 use Rattle.c_grammar_laws.specs.Laws.{OneTree}
-use Rattle.c_nesting.specs.declared.nesting.TheConstants.{LIMIT}
+use Rattle.c_tokens.specs.declared.limits.TheConstants.{MAX_NESTING}
 use Rattle.c_parser.specs.Parses.{left_out, IsFirstTooDeep, IsWithin}
 use Rattle.c_straight.specs.Straight.{IsStraight, items_of}
 use Rattle.c_source.specs.declared.refusal.Refusal.{Refusal}
 use Rattle.c_source.specs.declared.refusal.Refusal.TheVariants.{TooLong, NoToken, Directive, LongConstant, TooManyTokens, LeftOut, TooDeep, Syntax, NotYet}
-use Rattle.c_source.specs.Sources.{HasTokens, FailsWith, HasTree, Early, Refuses}
+use Rattle.c_source.specs.Sources.{HasTokens, FailsWith, HasTree, SpellsStraight, Refuses}
 
 same_tokens : (source : List ℕ) (a b : List Token) → HasTokens source a → HasTokens source b → a ≡ b
 same_tokens source a b h k = let e = h.read in let f = k.read in cc
@@ -26,8 +26,8 @@ read_or_fails source tokens fault h k = let e = h.read in let f = k.read in cc
 none_deeper : (tokens : List Token) (at : ℕ) → IsFirstTooDeep tokens None → IsFirstTooDeep tokens (Some at) → ⊥
 none_deeper tokens at none some =
     let inside : at + 1 ≤ length (kinds_of tokens) = let h = some.0 in omega arith in
-    let flat : depth_after (kinds_of tokens) (at + 1) ≤ LIMIT = none (at + 1) inside in
-    let deep : LIMIT < depth_after (kinds_of tokens) (at + 1) = some.1 in
+    let flat : depth_after (kinds_of tokens) (at + 1) ≤ MAX_NESTING = none (at + 1) inside in
+    let deep : MAX_NESTING < depth_after (kinds_of tokens) (at + 1) = some.1 in
     omega arith
 
 within_of : (source : List ℕ) (tokens : List Token) (tree : Tree) (others : List Token) → HasTree source tokens tree → HasTokens source others → IsWithin others
@@ -39,14 +39,12 @@ spelled_of source tokens tree others h k =
     subst P (same_tokens source tokens others h.tokens_are k) h.spelled
 
 straight_of : (source : List ℕ) (tokens : List Token) (tree : Tree) (others : List Token) (other : Tree) (program : Program) → OneTree
-    → HasTree source tokens tree → IsStraight tokens tree program → HasTree source others other → IsStraight others other program
+    → HasTree source tokens tree → IsStraight tree program → HasTree source others other → IsStraight other program
 straight_of source tokens tree others other program one h is k =
-    let P : List Token → Type 0 = λ ts. IsStraight ts tree program in
-    let Q : Tree → Type 0 = λ t. IsStraight others t program in
-    let there : IsStraight others tree program = subst P (same_tokens source tokens others h.tokens_are k.tokens_are) is in
-    subst Q (one others tree other (spelled_of source tokens tree others h k.tokens_are) k.spelled) there
+    let P : Tree → Type 0 = λ t. IsStraight t program in
+    subst P (one others tree other (spelled_of source tokens tree others h k.tokens_are) k.spelled) is
 
-pub spells_or_refuses_lem : OneTree → (source : List ℕ) (program : Program) (refusal : Refusal) → Early source program → Refuses source refusal → ⊥
+pub spells_or_refuses_lem : OneTree → (source : List ℕ) (program : Program) (refusal : Refusal) → SpellsStraight source program → Refuses source refusal → ⊥
 spells_or_refuses_lem one source program TooLong early r = let size = early.has.tokens_are.size in omega arith
 spells_or_refuses_lem one source program (NoToken line) early r = read_or_fails source early.tokens _ early.has.tokens_are r.1.fails
 spells_or_refuses_lem one source program (Directive line) early r = read_or_fails source early.tokens _ early.has.tokens_are r.1.fails
@@ -68,7 +66,7 @@ same_program one other found e f =
     let items : one.items ≡ other.items = cc in
     ap (λ (xs : List BlockItem). record { items = xs }) items
 
-pub one_program_lem : OneTree → (source : List ℕ) (one other : Program) → Early source one → Early source other → one ≡ other
+pub one_program_lem : OneTree → (source : List ℕ) (one other : Program) → SpellsStraight source one → SpellsStraight source other → one ≡ other
 one_program_lem law source one other a b =
-    let there : IsStraight b.tokens b.tree one = straight_of source a.tokens a.tree b.tokens b.tree one law a.has a.straight b.has in
-    same_program one other (items_of b.tokens b.tree.externals) there.items b.straight.items
+    let there : IsStraight b.tree one = straight_of source a.tokens a.tree b.tokens b.tree one law a.has a.straight b.has in
+    same_program one other (items_of b.tree.lines b.tree.externals) there.items b.straight.items

@@ -5,7 +5,7 @@ use Rattle.c_tokens.specs.declared.data_model.DataModel.TheVariants.{Lp64}
 use Rattle.c_tokens.specs.declared.limits.TheConstants.{MAX_BYTES}
 use Rattle.c_tokens.specs.declared.token.Token.{Token}
 use Rattle.c_tokens.specs.declared.token.TokenKind.{TokenKind}
-use Rattle.c_model.specs.declared.program.Program.{Program}
+use Rattle.c_straight_model.specs.declared.program.Program.{Program}
 use Rattle.c_tokens.specs.Reading.{Fault, Read, Fails, newlines, place_of, reading}
 use Rattle.c_tokens.specs.Reading as lexing
 use Rattle.c_tokens.specs.Words.{left_out_text}
@@ -62,11 +62,11 @@ pub record HasTree (source : List ℕ) (tokens : List Token) (tree : Tree) : Typ
   pub spelled : Spells tokens tree
 
 -- the bytes spell this straight program
-pub record Early (source : List ℕ) (program : Program) : Type 0 where
+pub record SpellsStraight (source : List ℕ) (program : Program) : Type 0 where
   pub tokens : List Token
   pub tree : Tree
   pub has : HasTree source tokens tree
-  pub straight : IsStraight tokens tree program
+  pub straight : IsStraight tree program
 
 -- ---- why they are refused: each cause is the first in this order
 
@@ -107,7 +107,7 @@ pub record IsNotYet (source : List ℕ) : Type 0 where
   pub tokens : List Token
   pub tree : Tree
   pub has : HasTree source tokens tree
-  pub not_straight : (program : Program) → IsStraight tokens tree program → ⊥
+  pub not_straight : (program : Program) → IsStraight tree program → ⊥
 
 -- the bytes are refused for this
 abbrev pub Refuses : List ℕ → Refusal → Type 0
@@ -123,8 +123,8 @@ Refuses source NotYet = IsNotYet source
 
 -- no bytes spell a straight program and are refused
 abbrev pub SpellsOrRefuses : Type 0
-SpellsOrRefuses = (source : List ℕ) (program : Program) (refusal : Refusal) → Early source program → Refuses source refusal → ⊥
+SpellsOrRefuses = (source : List ℕ) (program : Program) (refusal : Refusal) → SpellsStraight source program → Refuses source refusal → ⊥
 
 -- no bytes spell two straight programs
 abbrev pub OneProgram : Type 0
-OneProgram = (source : List ℕ) (one other : Program) → Early source one → Early source other → one ≡ other
+OneProgram = (source : List ℕ) (one other : Program) → SpellsStraight source one → SpellsStraight source other → one ≡ other

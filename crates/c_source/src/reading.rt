@@ -2,7 +2,7 @@ ghost use Rattle.std.specs.Prelude.{◌≡◌, ◌≤◌, length};
 ghost use Rattle.std.specs.Prelude.{MatchResult};
 ghost use Rattle.c_tree.specs.SpellsText.{Spells};
 ghost use Rattle.c_parser.specs.Parses.{IsWithin};
-ghost use Rattle.c_source.specs.Sources.{Early, HasTokens, OneProgram, SpellsOrRefuses};
+ghost use Rattle.c_source.specs.Sources.{SpellsStraight, HasTokens, OneProgram, SpellsOrRefuses};
 ghost use Rattle.c_source.specs.Causes.{IsCause, IsCauseBehind};
 
 use crate::Refusal;
@@ -10,9 +10,9 @@ use crate::lines::{line_at, line_of};
 use crate::words::word_at;
 use c_grammar_laws::laws::one_tree;
 use c_lexer::{LexFault, MAX_BYTES, lex};
-use c_model::Program;
 use c_parser::{ParseFault, parse};
 use c_straight::straight;
+use c_straight_model::Program;
 use c_tokens::{DataModel, Tokens};
 use c_tree::Tree;
 use kv_base::NoMemory;
@@ -90,7 +90,7 @@ fn tree_of(alloc: Global, tokens: &Tokens) -> Result<Tree, Unread>
 /// The straight program that the bytes spell, or the first cause for which they are refused, in this order: their
 /// length, their tokens, their grammar, and that their tree is no straight program's.
 pub fn read_source(alloc: Global, source: &[u8]) -> Result<Program, Unread>
-    ensures { MatchResult result (Early source.now) (IsCause source.now) }
+    ensures { MatchResult result (SpellsStraight source.now) (IsCause source.now) }
 {
     if source.len() > MAX_BYTES {
         return Err(Unread::Refused {
@@ -105,7 +105,7 @@ pub fn read_source(alloc: Global, source: &[u8]) -> Result<Program, Unread>
         Ok(tree) => tree,
         Err(unread) => return Err(unread),
     };
-    match straight(alloc, tokens.as_slice(), &tree)? {
+    match straight(alloc, &tree)? {
         Some(program) => Ok(program),
         None => Err(Unread::Refused {
             refusal: Refusal::NotYet,

@@ -10,7 +10,7 @@ use Rattle.c_cursor.proofs.Single.{name_of, name_marked}
 use Rattle.c_specifiers.specs.Members.{constant_at, constant_after}
 use Rattle.c_grammar.specs.Marks as spec
 use Rattle.c_grammar.specs.Marks.{Mark, mark_at}
-use Rattle.c_grammar.specs.Reader.{Gives, and_then}
+use Rattle.c_grammar.specs.ReadExpressions.{Gives, and_then}
 use Rattle.c_grammar.specs.ReadTypes as types
 use Rattle.c_grammar.specs.Readers.{read}
 

@@ -5,10 +5,10 @@ use Rattle.c_tree.specs.declared.expression.MemberLine.{MemberLine}
 use Rattle.c_tree.specs.Places.{Place, next}
 use Rattle.c_cursor.specs.declared.marks.Mark.TheVariants as mark
 use Rattle.c_cursor.specs.Bare.{bare}
-use Rattle.c_specifiers.specs.Members.{members_at, line_members, line_at}
+use Rattle.c_specifiers.specs.Members.{members_at, line_members, member_line}
 use Rattle.c_grammar.specs.Marks as spec
 use Rattle.c_grammar.specs.Marks.{Mark, mark_at}
-use Rattle.c_grammar.specs.Reader.{Outcome, Gives, Refuses, and_then}
+use Rattle.c_grammar.specs.ReadExpressions.{Outcome, Gives, Refuses, and_then}
 use Rattle.c_grammar.specs.ReadTypes.{Specified, Specifies, ListOf, where_semicolon, line_after, lines_by, lines}
 use Rattle.c_grammar.specs.Readers.{specifiers}
 use Rattle.c_cursor.proofs.Lists.{after, append_none, joined, one_further, then_both}
@@ -40,16 +40,16 @@ lines_close kinds d more p spec.CurlyCloses e = refl
 lines_close kinds d more p _ e = cc
 
 line_taken : (kinds : List TokenKind) (d : ℕ) (more : ListOf MemberLine) (p : Place)
-    → and_then (specifiers kinds d p) (line_after kinds (members_at kinds d) more) ≡ and_then (line_at kinds d p) (before_lines more)
+    → and_then (specifiers kinds d p) (line_after kinds (members_at kinds d) more) ≡ and_then (member_line kinds d p) (before_lines more)
 line_taken kinds d more p = then_both (specifiers kinds d p) (line_after kinds (members_at kinds d) more) (line_members kinds d) (before_lines more) (line_on kinds d more)
 
 lines_go : (kinds : List TokenKind) (d : ℕ) (more : ListOf MemberLine) (p : Place) (m : Mark) → (bare m ≡ mark.CurlyCloses → ⊥)
-    → lines_by kinds (specifiers kinds d) (members_at kinds d) more p m ≡ and_then (line_at kinds d p) (before_lines more)
+    → lines_by kinds (specifiers kinds d) (members_at kinds d) more p m ≡ and_then (member_line kinds d p) (before_lines more)
 lines_go kinds d more p spec.CurlyCloses f = absurd (f refl)
 lines_go kinds d more p _ f = line_taken kinds d more p
 
 lines_behind : (kinds : List TokenKind) (d n i : ℕ) (p : Place) → i < n → (bare (mark_at kinds p) ≡ mark.CurlyCloses → ⊥)
-    → further_lines kinds d (n - i) p ≡ and_then (line_at kinds d p) (before_lines (further_lines kinds d (n - (i + 1))))
+    → further_lines kinds d (n - i) p ≡ and_then (member_line kinds d p) (before_lines (further_lines kinds d (n - (i + 1))))
 lines_behind kinds d n i p h f = lines_step kinds d n i p h ∙ lines_go kinds d (further_lines kinds d (n - (i + 1))) p (mark_at kinds p) f
 
 pub lines_end : (kinds : List TokenKind) (d n i : ℕ) (whole : Outcome (List MemberLine)) (p : Place) (found : List MemberLine)
@@ -57,13 +57,13 @@ pub lines_end : (kinds : List TokenKind) (d n i : ℕ) (whole : Outcome (List Me
 lines_end kinds d n i whole p found w h e =
     w ∙ (ap (after found) (lines_step kinds d n i p h ∙ lines_close kinds d (further_lines kinds d (n - (i + 1))) p (mark_at kinds p) e) ∙ ap (λ xs. Gives xs p) (append_none found))
 
-pub lines_refused : (kinds : List TokenKind) (d n i : ℕ) (p : Place) (found : List MemberLine) → i < n → (bare (mark_at kinds p) ≡ mark.CurlyCloses → ⊥) → line_at kinds d p ≡ Refuses
+pub lines_refused : (kinds : List TokenKind) (d n i : ℕ) (p : Place) (found : List MemberLine) → i < n → (bare (mark_at kinds p) ≡ mark.CurlyCloses → ⊥) → member_line kinds d p ≡ Refuses
     → after found (further_lines kinds d (n - i) p) ≡ Refuses
 lines_refused kinds d n i p found h f e =
     ap (after found) (lines_behind kinds d n i p h f ∙ ap (λ o. and_then o (before_lines (further_lines kinds d (n - (i + 1))))) e)
 
 pub lines_next : (kinds : List TokenKind) (d n i : ℕ) (whole : Outcome (List MemberLine)) (p q : Place) (found further : List MemberLine) (x : MemberLine)
-    → whole ≡ after found (further_lines kinds d (n - i) p) → i < n → (bare (mark_at kinds p) ≡ mark.CurlyCloses → ⊥) → line_at kinds d p ≡ Gives x q → further ≡ found ++ x ∷ []
+    → whole ≡ after found (further_lines kinds d (n - i) p) → i < n → (bare (mark_at kinds p) ≡ mark.CurlyCloses → ⊥) → member_line kinds d p ≡ Gives x q → further ≡ found ++ x ∷ []
     → whole ≡ after further (further_lines kinds d (n - (i + 1)) q)
 lines_next kinds d n i whole p q found further x w h f e g =
     let more = further_lines kinds d (n - (i + 1)) in

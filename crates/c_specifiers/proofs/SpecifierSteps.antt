@@ -15,7 +15,7 @@ use Rattle.c_specifiers.specs.Specifiers.{structure, enumeration, at_number, wor
 use Rattle.c_grammar.specs.Kinds.{kind_at, start, is_start, begins_type}
 use Rattle.c_grammar.specs.Marks as spec
 use Rattle.c_grammar.specs.Marks.{Mark, mark_of, mark_at}
-use Rattle.c_grammar.specs.Reader.{Outcome, Gives, Refuses, and_then}
+use Rattle.c_grammar.specs.ReadExpressions.{Outcome, Gives, Refuses, and_then}
 use Rattle.c_grammar.specs.ReadTypes as types
 use Rattle.c_grammar.specs.ReadTypes.{Specific, Plays, Specified, Specifies, Titled, Titles, Skips, ReadsSpecifiers, attributes, is_further, goes_further, joined, further_by, further_after, further}
 use Rattle.c_cursor.proofs.Lists.{one_further}

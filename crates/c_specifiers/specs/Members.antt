@@ -9,7 +9,7 @@ use Rattle.c_tree.specs.declared.expression.EnumConstant.TheVariants as constant
 use Rattle.c_tree.specs.Places.{Place, next, declare}
 use Rattle.c_grammar.specs.Marks as sign
 use Rattle.c_grammar.specs.Marks.{mark_at}
-use Rattle.c_grammar.specs.Reader.{Outcome, Gives, and_then}
+use Rattle.c_grammar.specs.ReadExpressions.{Outcome, Gives, and_then}
 use Rattle.c_grammar.specs.ReadTypes as spec
 use Rattle.c_grammar.specs.ReadTypes.{Specifies, Titled, Titles, where_semicolon}
 use Rattle.c_grammar.specs.Readers.{read, specifiers, declarator}
@@ -37,8 +37,8 @@ abbrev pub line_members : List TokenKind → ℕ → spec.Specified → Place �
 line_members kinds n (Specifies defines list) q =
     and_then (members_at kinds n q) (λ xs r. where_semicolon (mark_at kinds r) (Gives (record { specifiers = list; members = xs }) (next r)))
 
-abbrev pub line_at : List TokenKind → ℕ → Place → Outcome MemberLine
-line_at kinds n p = and_then (specifiers kinds n p) (line_members kinds n)
+abbrev pub member_line : List TokenKind → ℕ → Place → Outcome MemberLine
+member_line kinds n p = and_then (specifiers kinds n p) (line_members kinds n)
 
 -- ---- enumeration constants (6.7.2.2)
 

@@ -7,7 +7,7 @@ use Rattle.c_tree.specs.Spells as spelled
 use Rattle.c_tree.specs.Spells.{storage_role}
 use Rattle.c_grammar.specs.Marks as sign
 use Rattle.c_grammar.specs.Marks.{mark_at}
-use Rattle.c_grammar.specs.Reader.{Outcome, Gives, Refuses, and_then}
+use Rattle.c_grammar.specs.ReadExpressions.{Outcome, Gives, Refuses, and_then}
 use Rattle.c_grammar.specs.ReadTypes as spec
 use Rattle.c_grammar.specs.ReadTypes.{Plays, attributes}
 use Rattle.c_cursor.specs.declared.marks.Mark.{Mark}

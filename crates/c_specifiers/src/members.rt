@@ -7,7 +7,7 @@ ghost use Rattle.c_grammar.specs.ReadTypes as spec;
 ghost use Rattle.c_grammar.specs.Readers as readers;
 ghost use Rattle.c_cursor.specs.Reads.{Reads, ReadsAs, specified_of, titled_of};
 ghost use Rattle.c_cursor.specs.Parts.{ReadsExpressions, ReadsPartAs, lines_at};
-ghost use Rattle.c_specifiers.specs.Members.{member_at, unnamed_bit_field, bit_field, named_member, members_at, line_at};
+ghost use Rattle.c_specifiers.specs.Members.{member_at, unnamed_bit_field, bit_field, named_member, members_at, member_line};
 
 use c_boxes::keeping;
 use c_cursor::{Cursor, Fault, Mark, Specified, Titled, mark_at, refuse, take};
@@ -179,7 +179,7 @@ impl<
         requires expressions { ReadsExpressions self.now.depth (R.pre self.now.read) (R.post self.now.read) }
         requires specifies { ReadsPartAs specified_of readers.specifiers self.now.depth (S.pre self.now.specifiers) (S.post self.now.specifiers) }
         requires declares { ReadsPartAs titled_of readers.declarator self.now.depth (D.pre self.now.declarator) (D.post self.now.declarator) }
-        ensures { Reads (line_at (kinds_of self.now.tokens.now) self.now.depth place.old) result place.new }
+        ensures { Reads (member_line (kinds_of self.now.tokens.now) self.now.depth place.old) result place.new }
     {
         let specified = self.specifiers(place)?;
         let parts = keeping(specified.list, self.members(place))?;

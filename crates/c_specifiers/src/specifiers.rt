@@ -62,6 +62,7 @@ pub struct Specific {
     pub specifier: Specifier,
 }
 
+/// What a storage word says of the declared names (6.7.1).
 fn storage_role(word: StorageWord) -> Role
     ensures { role_of result ≡ spelled.storage_role word }
 {

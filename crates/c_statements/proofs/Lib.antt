@@ -1,4 +1,1 @@
 pub mod Blocks
-pub mod ChainSteps
-pub mod Leaving
-pub mod Starts

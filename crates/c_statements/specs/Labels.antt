@@ -4,7 +4,7 @@ use Rattle.c_tokens.specs.declared.token.TokenKind.{TokenKind}
 use Rattle.c_tree.specs.declared.statement.Statement.{Statement}
 use Rattle.c_tree.specs.declared.statement.Statement.TheVariants as statement_node
 use Rattle.c_tree.specs.Places.{Place, next}
-use Rattle.c_grammar.specs.Reader.{Outcome, Gives, and_then}
+use Rattle.c_grammar.specs.ReadExpressions.{Outcome, Gives, and_then}
 use Rattle.c_grammar.specs.ReadStatements.{ReadsStatement, labelled}
 
 -- after a label's name

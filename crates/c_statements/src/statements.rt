@@ -1,4 +1,4 @@
-//! Labels, blocks, and all statements (C11 6.8).
+//! Labelled statements and blocks (C11 6.8.1, 6.8.2).
 
 ghost use Rattle.std.specs.Prelude.{◌≡◌, ◌<◌, ◌+◌};
 ghost use Rattle.c_tree.specs.Places.{next};
@@ -10,18 +10,16 @@ ghost use Rattle.c_cursor.specs.Reads.{Reads};
 ghost use Rattle.c_cursor.specs.Parts.{ReadsExpressions, ReadsPart};
 ghost use Rattle.c_statements.specs.Labels.{label_statement};
 
-use crate::Inside;
-use crate::jumps::{break_statement, continue_statement};
 use c_boxes::keeping;
-use c_cursor::{Cursor, Fault, Mark, begins_type, mark_at, refuse, second_mark, take};
+use c_cursor::{Cursor, Fault, Inside, Mark, begins_type, mark_at, refuse, second_mark, take};
 use c_grammar::CONDITIONAL;
-use c_tokens::{Token, TokenKind};
+use c_tokens::Token;
 use c_tree::{BlockItem, Declaration, Expression, Statement};
 use kv_base::{Bytes, Copied};
 use sqlite_items::{Boxed, Items};
 use std::alloc::Global;
 
-/// The rules of statements.
+/// The rules of labelled statements and blocks.
 #[derive(Clone, Copy)]
 pub struct Statements<'t, R, D, S> {
     pub inside: Inside<'t, R, D, S>,
@@ -62,7 +60,7 @@ impl<
     }
 
     /// What begins with a name.
-    fn named(&self, text: &Bytes, place: &mut Cursor) -> Result<Statement, Fault>
+    pub fn named(&self, text: &Bytes, place: &mut Cursor) -> Result<Statement, Fault>
         requires expressions { ReadsExpressions self.now.inside.steps (R.pre self.now.inside.read) (R.post self.now.inside.read) }
         requires runs { ReadsPart spec.statement self.now.inside.depth (S.pre self.now.inside.statement) (S.post self.now.inside.statement) }
         ensures { let kinds = kinds_of self.now.inside.tokens.now in Reads (spec.name_statement kinds (readers.read kinds self.now.inside.steps) (spec.statement kinds self.now.inside.depth) place.old text.now (mark_at kinds (next place.old))) result place.new }
@@ -74,7 +72,7 @@ impl<
     }
 
     /// `case value: body` (6.8.1).
-    fn case(&self, place: &mut Cursor) -> Result<Statement, Fault>
+    pub fn case(&self, place: &mut Cursor) -> Result<Statement, Fault>
         requires expressions { ReadsExpressions self.now.inside.steps (R.pre self.now.inside.read) (R.post self.now.inside.read) }
         requires runs { ReadsPart spec.statement self.now.inside.depth (S.pre self.now.inside.statement) (S.post self.now.inside.statement) }
         requires here { place.old.at < usize.MAX }
@@ -89,7 +87,7 @@ impl<
     }
 
     /// `default: body` (6.8.1).
-    fn default(&self, place: &mut Cursor) -> Result<Statement, Fault>
+    pub fn default(&self, place: &mut Cursor) -> Result<Statement, Fault>
         requires runs { ReadsPart spec.statement self.now.inside.depth (S.pre self.now.inside.statement) (S.post self.now.inside.statement) }
         requires here { place.old.at < usize.MAX }
         ensures { let kinds = kinds_of self.now.inside.tokens.now in Reads (spec.default_statement kinds (spec.statement kinds self.now.inside.depth) place.old) result place.new }
@@ -146,7 +144,7 @@ impl<
     }
 
     /// `{ items }` (6.8.2).
-    fn block(&self, place: &mut Cursor) -> Result<Statement, Fault>
+    pub fn block(&self, place: &mut Cursor) -> Result<Statement, Fault>
         requires declares { ReadsPart spec.declaration self.now.inside.depth (D.pre self.now.inside.declaration) (D.post self.now.inside.declaration) }
         requires runs { ReadsPart spec.statement self.now.inside.depth (S.pre self.now.inside.statement) (S.post self.now.inside.statement) }
         requires here { place.old.at < usize.MAX }
@@ -159,34 +157,5 @@ impl<
         take(self.inside.tokens, Mark::CurlyCloses, place)?;
         place.leave();
         Ok(Statement::Block { items, at })
-    }
-
-    /// A statement in at least one step.
-    pub fn statement(&self, place: &mut Cursor) -> Result<Statement, Fault>
-        requires expressions { ReadsExpressions self.now.inside.steps (R.pre self.now.inside.read) (R.post self.now.inside.read) }
-        requires declares { ReadsPart spec.declaration self.now.inside.depth (D.pre self.now.inside.declaration) (D.post self.now.inside.declaration) }
-        requires runs { ReadsPart spec.statement self.now.inside.depth (S.pre self.now.inside.statement) (S.post self.now.inside.statement) }
-        ensures { let kinds = kinds_of self.now.inside.tokens.now in Reads (spec.statement_by kinds (readers.read kinds self.now.inside.steps) (spec.declaration kinds self.now.inside.depth) (spec.statement kinds self.now.inside.depth) self.now.inside.steps place.old (mark_at kinds place.old)) result place.new }
-    {
-        match place.kind(self.inside.tokens) {
-            Some(TokenKind::LeftBrace) => self.block(place),
-            Some(TokenKind::Semicolon) => {
-                let at = place.at();
-                place.skip();
-                Ok(Statement::Empty { at })
-            }
-            Some(TokenKind::Name { text }) => self.named(text, place),
-            Some(TokenKind::Case) => self.case(place),
-            Some(TokenKind::Default) => self.default(place),
-            Some(TokenKind::If) => self.inside.chain(place),
-            Some(TokenKind::Switch) => self.inside.switch(place),
-            Some(TokenKind::While) => self.inside.while_loop(place),
-            Some(TokenKind::Do) => self.inside.do_loop(place),
-            Some(TokenKind::For) => self.inside.for_loop(place),
-            Some(TokenKind::Break) => break_statement(self.inside.tokens, place),
-            Some(TokenKind::Continue) => continue_statement(self.inside.tokens, place),
-            Some(TokenKind::Return) => self.inside.return_statement(place),
-            _ => self.inside.value_statement(place),
-        }
     }
 }

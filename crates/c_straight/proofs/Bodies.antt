@@ -1,8 +1,7 @@
 -- Bodies, item by item.
 use Rattle.std.proofs.Common.{◌≡◌, ℕ, suc, ◌+◌, ◌<◌, Bool, true, false, List, [], ◌∷◌, ◌++◌, length, get_or, drop, Option, Some, None, refl, sym, ap, ◌∙◌, append_assoc, arith, drop-cons, length-drop, add-one}
 use Rattle.std.proofs.lemmas.List.{append-nil}
-use Rattle.c_tokens.specs.declared.token.Token.{Token}
-use Rattle.c_model.specs.declared.program.BlockItem.{BlockItem}
+use Rattle.c_straight_model.specs.declared.program.BlockItem.{BlockItem}
 use Rattle.c_tree.specs.declared.statement.BlockItem.{BlockItem as TreeItem}
 use Rattle.c_straight.specs.Straight.{and_then, where_true, item_of, returns_zero, body_of}
 
@@ -30,61 +29,61 @@ prefixed_last found false = refl
 front : (items : List TreeItem) (at : ℕ) (x : TreeItem) → at < length items → x ≡ get_or items at x → drop at items ≡ x ∷ drop (at + 1) items
 front items at x within is = drop-cons items at x within ∙ ap (λ i. i ∷ drop (suc at) items) (sym is) ∙ ap (λ n. x ∷ drop n items) (sym (add-one at))
 
-goes_on : (tokens : List Token) (n : ℕ) (x : TreeItem) (rest : List TreeItem) → 0 < length rest → body_of tokens n (x ∷ rest) ≡ with_first (item_of tokens n x) (body_of tokens n rest)
+goes_on : (lines : List ℕ) (n : ℕ) (x : TreeItem) (rest : List TreeItem) → 0 < length rest → body_of lines n (x ∷ rest) ≡ with_first (item_of lines n x) (body_of lines n rest)
 unfolding body_of
-goes_on tokens n x [] h = absurd (omega arith)
-goes_on tokens n x (y ∷ rest) h = refl
+goes_on lines n x [] h = absurd (omega arith)
+goes_on lines n x (y ∷ rest) h = refl
 
-ends : (tokens : List Token) (n : ℕ) (x : TreeItem) (rest : List TreeItem) → length rest ≡ 0 → body_of tokens n (x ∷ rest) ≡ where_true (returns_zero x) (Some [])
+ends : (lines : List ℕ) (n : ℕ) (x : TreeItem) (rest : List TreeItem) → length rest ≡ 0 → body_of lines n (x ∷ rest) ≡ where_true (returns_zero x) (Some [])
 unfolding body_of
-ends tokens n x [] h = refl
-ends tokens n x (y ∷ rest) h = absurd (omega arith)
+ends lines n x [] h = refl
+ends lines n x (y ∷ rest) h = absurd (omega arith)
 
 -- after some items, before another
-body_front : (tokens : List Token) (n : ℕ) (items : List TreeItem) (at : ℕ) (x : TreeItem) → at < length items → x ≡ get_or items at x → 0 < length (drop (at + 1) items)
-    → body_of tokens n (drop at items) ≡ with_first (item_of tokens n x) (body_of tokens n (drop (at + 1) items))
-body_front tokens n items at x within is some = ap (body_of tokens n) (front items at x within is) ∙ goes_on tokens n x (drop (at + 1) items) some
+body_front : (lines : List ℕ) (n : ℕ) (items : List TreeItem) (at : ℕ) (x : TreeItem) → at < length items → x ≡ get_or items at x → 0 < length (drop (at + 1) items)
+    → body_of lines n (drop at items) ≡ with_first (item_of lines n x) (body_of lines n (drop (at + 1) items))
+body_front lines n items at x within is some = ap (body_of lines n) (front items at x within is) ∙ goes_on lines n x (drop (at + 1) items) some
 
-pub body_next : (tokens : List Token) (n : ℕ) (items : List TreeItem) (at : ℕ) (x : TreeItem) (found : List BlockItem) (item : BlockItem)
-    → at < length items → x ≡ get_or items at x → (at + 1 ≡ length items → ⊥) → Some item ≡ item_of tokens n x
-    → body_of tokens n items ≡ prefixed found (body_of tokens n (drop at items))
-    → body_of tokens n items ≡ prefixed (found ++ item ∷ []) (body_of tokens n (drop (at + 1) items))
-body_next tokens n items at x found item within is more e so_far =
+pub body_next : (lines : List ℕ) (n : ℕ) (items : List TreeItem) (at : ℕ) (x : TreeItem) (found : List BlockItem) (item : BlockItem)
+    → at < length items → x ≡ get_or items at x → (at + 1 ≡ length items → ⊥) → Some item ≡ item_of lines n x
+    → body_of lines n items ≡ prefixed found (body_of lines n (drop at items))
+    → body_of lines n items ≡ prefixed (found ++ item ∷ []) (body_of lines n (drop (at + 1) items))
+body_next lines n items at x found item within is more e so_far =
     let some : 0 < length (drop (at + 1) items) = omega (arith, length-drop {A = TreeItem}) in
-    so_far ∙ ap (prefixed found) (body_front tokens n items at x within is some ∙ ap (λ o. with_first o (body_of tokens n (drop (at + 1) items))) (sym e))
-    ∙ prefixed_first found item (body_of tokens n (drop (at + 1) items))
+    so_far ∙ ap (prefixed found) (body_front lines n items at x within is some ∙ ap (λ o. with_first o (body_of lines n (drop (at + 1) items))) (sym e))
+    ∙ prefixed_first found item (body_of lines n (drop (at + 1) items))
 
-pub body_stops : (tokens : List Token) (n : ℕ) (items : List TreeItem) (at : ℕ) (x : TreeItem) (found : List BlockItem)
-    → at < length items → x ≡ get_or items at x → (at + 1 ≡ length items → ⊥) → None ≡ item_of tokens n x
-    → body_of tokens n items ≡ prefixed found (body_of tokens n (drop at items)) → None ≡ body_of tokens n items
-body_stops tokens n items at x found within is more e so_far =
+pub body_stops : (lines : List ℕ) (n : ℕ) (items : List TreeItem) (at : ℕ) (x : TreeItem) (found : List BlockItem)
+    → at < length items → x ≡ get_or items at x → (at + 1 ≡ length items → ⊥) → None ≡ item_of lines n x
+    → body_of lines n items ≡ prefixed found (body_of lines n (drop at items)) → None ≡ body_of lines n items
+body_stops lines n items at x found within is more e so_far =
     let some : 0 < length (drop (at + 1) items) = omega (arith, length-drop {A = TreeItem}) in
-    sym (so_far ∙ ap (prefixed found) (body_front tokens n items at x within is some ∙ ap (λ o. with_first o (body_of tokens n (drop (at + 1) items))) (sym e)))
+    sym (so_far ∙ ap (prefixed found) (body_front lines n items at x within is some ∙ ap (λ o. with_first o (body_of lines n (drop (at + 1) items))) (sym e)))
 
-body_ends : (tokens : List Token) (n : ℕ) (items : List TreeItem) (at : ℕ) (x : TreeItem) (found : List BlockItem)
+body_ends : (lines : List ℕ) (n : ℕ) (items : List TreeItem) (at : ℕ) (x : TreeItem) (found : List BlockItem)
     → at < length items → x ≡ get_or items at x → at + 1 ≡ length items
-    → body_of tokens n items ≡ prefixed found (body_of tokens n (drop at items)) → body_of tokens n items ≡ where_true (returns_zero x) (Some (found ++ []))
-body_ends tokens n items at x found within is last so_far =
+    → body_of lines n items ≡ prefixed found (body_of lines n (drop at items)) → body_of lines n items ≡ where_true (returns_zero x) (Some (found ++ []))
+body_ends lines n items at x found within is last so_far =
     let none : length (drop (at + 1) items) ≡ 0 = omega (arith, length-drop {A = TreeItem}) in
-    so_far ∙ ap (prefixed found) (ap (body_of tokens n) (front items at x within is) ∙ ends tokens n x (drop (at + 1) items) none) ∙ prefixed_last found (returns_zero x)
+    so_far ∙ ap (prefixed found) (ap (body_of lines n) (front items at x within is) ∙ ends lines n x (drop (at + 1) items) none) ∙ prefixed_last found (returns_zero x)
 
-pub body_closed : (tokens : List Token) (n : ℕ) (items : List TreeItem) (at : ℕ) (x : TreeItem) (found : List BlockItem) (closes : Bool)
+pub body_closed : (lines : List ℕ) (n : ℕ) (items : List TreeItem) (at : ℕ) (x : TreeItem) (found : List BlockItem) (closes : Bool)
     → at < length items → x ≡ get_or items at x → at + 1 ≡ length items → closes ≡ returns_zero x → closes ≡ true
-    → body_of tokens n items ≡ prefixed found (body_of tokens n (drop at items)) → Some found ≡ body_of tokens n items
-body_closed tokens n items at x found closes within is last e closed so_far =
-    sym (body_ends tokens n items at x found within is last so_far ∙ ap (λ b. where_true b (Some (found ++ []))) (sym e ∙ closed) ∙ ap Some (append-nil found))
+    → body_of lines n items ≡ prefixed found (body_of lines n (drop at items)) → Some found ≡ body_of lines n items
+body_closed lines n items at x found closes within is last e closed so_far =
+    sym (body_ends lines n items at x found within is last so_far ∙ ap (λ b. where_true b (Some (found ++ []))) (sym e ∙ closed) ∙ ap Some (append-nil found))
 
-pub body_open : (tokens : List Token) (n : ℕ) (items : List TreeItem) (at : ℕ) (x : TreeItem) (found : List BlockItem) (closes : Bool)
+pub body_open : (lines : List ℕ) (n : ℕ) (items : List TreeItem) (at : ℕ) (x : TreeItem) (found : List BlockItem) (closes : Bool)
     → at < length items → x ≡ get_or items at x → at + 1 ≡ length items → closes ≡ returns_zero x → closes ≡ false
-    → body_of tokens n items ≡ prefixed found (body_of tokens n (drop at items)) → None ≡ body_of tokens n items
-body_open tokens n items at x found closes within is last e not_closed so_far =
-    sym (body_ends tokens n items at x found within is last so_far ∙ ap (λ b. where_true b (Some (found ++ []))) (sym e ∙ not_closed))
+    → body_of lines n items ≡ prefixed found (body_of lines n (drop at items)) → None ≡ body_of lines n items
+body_open lines n items at x found closes within is last e not_closed so_far =
+    sym (body_ends lines n items at x found within is last so_far ∙ ap (λ b. where_true b (Some (found ++ []))) (sym e ∙ not_closed))
 
-empty : (tokens : List Token) (n : ℕ) (xs : List TreeItem) → length xs ≡ 0 → body_of tokens n xs ≡ None
+empty : (lines : List ℕ) (n : ℕ) (xs : List TreeItem) → length xs ≡ 0 → body_of lines n xs ≡ None
 unfolding body_of
-empty tokens n [] h = refl
-empty tokens n (x ∷ xs) h = absurd (omega arith)
+empty lines n [] h = refl
+empty lines n (x ∷ xs) h = absurd (omega arith)
 
-pub body_none : (tokens : List Token) (n : ℕ) (items : List TreeItem) (at : ℕ) (found : List BlockItem) → length items ≡ at
-    → body_of tokens n items ≡ prefixed found (body_of tokens n (drop at items)) → None ≡ body_of tokens n items
-body_none tokens n items at found e so_far = sym (so_far ∙ ap (prefixed found) (empty tokens n (drop at items) (omega (arith, length-drop {A = TreeItem}))))
+pub body_none : (lines : List ℕ) (n : ℕ) (items : List TreeItem) (at : ℕ) (found : List BlockItem) → length items ≡ at
+    → body_of lines n items ≡ prefixed found (body_of lines n (drop at items)) → None ≡ body_of lines n items
+body_none lines n items at found e so_far = sym (so_far ∙ ap (prefixed found) (empty lines n (drop at items) (omega (arith, length-drop {A = TreeItem}))))

@@ -7,7 +7,7 @@ use Rattle.std.proofs.lemmas.Bool.Decides.{Decides-by_or}
 use Rattle.std.proofs.lemmas.Slice.Eq.{bytes_eq-Decides}
 use Rattle.std.proofs.lemmas.List.Elements.{Decides-contains, Contains-append_cases, Contains-append_left, Contains-append_right}
 use Rattle.std.proofs.lemmas.List.{reverse-append, reverse-reverse}
-use Rattle.c_model.specs.declared.program.BlockItem.{BlockItem}
+use Rattle.c_straight_model.specs.declared.program.BlockItem.{BlockItem}
 use Rattle.c_straight.specs.Names.{scope_after, IsScoped, AreScoped}
 use Rattle.c_straight.specs.Scope.{in_scope}
 

@@ -1,10 +1,10 @@
 -- The names of a straight program.
 use Rattle.std.specs.Prelude.{ℕ, List, [], ◌∷◌, All, Contains, codes}
-use Rattle.c_model.specs.declared.program.Operand.{Operand}
-use Rattle.c_model.specs.declared.program.Operand.TheVariants.{Name, Number}
-use Rattle.c_model.specs.declared.program.Sum.{Sum}
-use Rattle.c_model.specs.declared.program.BlockItem.{BlockItem}
-use Rattle.c_model.specs.declared.program.BlockItem.TheVariants.{Declare, Assign, Assert}
+use Rattle.c_straight_model.specs.declared.program.Operand.{Operand}
+use Rattle.c_straight_model.specs.declared.program.Operand.TheVariants.{Name, Number}
+use Rattle.c_straight_model.specs.declared.program.Sum.{Sum}
+use Rattle.c_straight_model.specs.declared.program.BlockItem.{BlockItem}
+use Rattle.c_straight_model.specs.declared.program.BlockItem.TheVariants.{Declare, Assign, Assert}
 
 -- names that name no object: `main`, and the known functions
 abbrev pub reserved : List (List ℕ)

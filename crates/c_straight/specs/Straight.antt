@@ -1,20 +1,19 @@
 -- The straight program that a tree is. Sections are those of ISO/IEC 9899:2011.
-use Rattle.std.specs.Prelude.{◌≡◌, ℕ, zero, suc, ℤ, pos, ◌^◌, Bool, true, false, not, ◌&&◌, nat_lt, nat_eq, List, [], ◌∷◌, ◌++◌, length, Option, Some, None, slice_get, if◌then◌else◌, codes}
+use Rattle.std.specs.Prelude.{◌≡◌, ℕ, zero, suc, ℤ, pos, ◌^◌, Bool, true, false, not, ◌&&◌, nat_lt, nat_eq, List, [], ◌∷◌, ◌++◌, length, Option, Some, None, slice_get, unwrap_or, if◌then◌else◌, codes}
 use Rattle.std.specs.Option.{is_some}
 use Rattle.std.specs.Str.{bytes_eq}
 use Rattle.kv_num.specs.declared.types.IntType.{IntType}
 use Rattle.kv_num.specs.declared.types.IntType.TheVariants.{Int}
-use Rattle.c_tokens.specs.declared.token.Token.{Token}
-use Rattle.c_model.specs.declared.program.Operand.{Operand}
-use Rattle.c_model.specs.declared.program.Operand.TheVariants as operand
-use Rattle.c_model.specs.declared.program.Sign.{Sign}
-use Rattle.c_model.specs.declared.program.Sign.TheVariants.{Plus, Minus}
-use Rattle.c_model.specs.declared.program.Sum.{Sum}
-use Rattle.c_model.specs.declared.program.Relation.{Relation}
-use Rattle.c_model.specs.declared.program.Relation.TheVariants as relation
-use Rattle.c_model.specs.declared.program.BlockItem.{BlockItem}
-use Rattle.c_model.specs.declared.program.BlockItem.TheVariants as straight
-use Rattle.c_model.specs.declared.program.Program.{Program}
+use Rattle.c_straight_model.specs.declared.program.Operand.{Operand}
+use Rattle.c_straight_model.specs.declared.program.Operand.TheVariants as operand
+use Rattle.c_straight_model.specs.declared.program.Sign.{Sign}
+use Rattle.c_straight_model.specs.declared.program.Sign.TheVariants.{Plus, Minus}
+use Rattle.c_straight_model.specs.declared.program.Sum.{Sum}
+use Rattle.c_straight_model.specs.declared.program.Relation.{Relation}
+use Rattle.c_straight_model.specs.declared.program.Relation.TheVariants as relation
+use Rattle.c_straight_model.specs.declared.program.BlockItem.{BlockItem}
+use Rattle.c_straight_model.specs.declared.program.BlockItem.TheVariants as straight
+use Rattle.c_straight_model.specs.declared.program.Program.{Program}
 use Rattle.c_tree.specs.declared.expression.BinaryOperator.{BinaryOperator}
 use Rattle.c_tree.specs.declared.expression.BinaryOperator.TheVariants as binary
 use Rattle.c_tree.specs.declared.expression.AssignOperator.{AssignOperator}
@@ -88,8 +87,8 @@ sum_of (suc n) x = sum_by (sum_of n) x
 -- ---- items (6.8.2)
 
 -- the line of the token of this number
-abbrev pub line_at : List Token → ℕ → ℕ
-line_at tokens at = elim (slice_get tokens at) as (λ _. ℕ) [ Some token ↦ token.line | None ↦ 0 ]
+abbrev pub line_at : List ℕ → ℕ → ℕ
+line_at lines at = unwrap_or (slice_get lines at) 0
 
 -- an expression that is a name: the name, and its token's number
 abbrev pub name_in : Expression → Option (List ℕ)
@@ -111,22 +110,22 @@ abbrev pub name_of : Declarator → Option (List ℕ)
 name_of x = elim (out-Declarator x) as (λ _. Option (List ℕ)) [ d.«Declarator::Name» name at ↦ Some name | _ ↦ None ]
 
 abbrev pub value_of : ℕ → Initialiser → Option Sum
-value_of n x = elim (out-Initialiser x) as (λ _. Option Sum) [ i.Value value ↦ sum_of n value | _ ↦ None ]
+value_of n x = elim (out-Initialiser x) as (λ _. Option Sum) [ i.Value value at ↦ sum_of n value | _ ↦ None ]
 
 -- `int name = sum;`
-abbrev pub declared_by : List Token → ℕ → ℕ → List Declared → Option BlockItem
-declared_by tokens n at (declared.Initialised declarator value equals ∷ []) =
-    and_then (name_of declarator) (λ name. and_then (value_of n value) (λ sum. Some (straight.Declare name sum (line_at tokens at))))
-declared_by tokens n at _ = None
+abbrev pub declared_by : List ℕ → ℕ → ℕ → List Declared → Option BlockItem
+declared_by lines n at (declared.Initialised declarator value equals ∷ []) =
+    and_then (name_of declarator) (λ name. and_then (value_of n value) (λ sum. Some (straight.Declare name sum (line_at lines at))))
+declared_by lines n at _ = None
 
-abbrev pub declaration_of : List Token → ℕ → Declaration → Option BlockItem
-declaration_of tokens n x = and_then (int_place x.specifiers) (λ at. declared_by tokens n at x.names)
+abbrev pub declaration_of : List ℕ → ℕ → Declaration → Option BlockItem
+declaration_of lines n x = and_then (int_place x.specifiers) (λ at. declared_by lines n at x.names)
 
 -- `name = sum;`
-abbrev pub assignment_of : List Token → ℕ → AssignOperator → Expression → Expression → Option BlockItem
-assignment_of tokens n Plain target value =
-    and_then (name_in target) (λ name. and_then (sum_of n value) (λ sum. Some (straight.Assign name sum (line_at tokens (place_of target)))))
-assignment_of tokens n _ target value = None
+abbrev pub assignment_of : List ℕ → ℕ → AssignOperator → Expression → Expression → Option BlockItem
+assignment_of lines n Plain target value =
+    and_then (name_in target) (λ name. and_then (sum_of n value) (λ sum. Some (straight.Assign name sum (line_at lines (place_of target)))))
+assignment_of lines n _ target value = None
 
 -- 6.5.9
 abbrev pub relation_of : BinaryOperator → Option Relation
@@ -146,22 +145,22 @@ is_named text None = false
 is_named text (Some name) = bytes_eq name text
 
 -- `assert(sum == sum);` or `assert(sum != sum);`
-abbrev pub call_of : List Token → ℕ → Expression → List Expression → Option BlockItem
-call_of tokens n function (x ∷ []) = where_true (is_named (codes "assert") (name_in function)) (asserted n (line_at tokens (place_of function)) x)
-call_of tokens n function _ = None
+abbrev pub call_of : List ℕ → ℕ → Expression → List Expression → Option BlockItem
+call_of lines n function (x ∷ []) = where_true (is_named (codes "assert") (name_in function)) (asserted n (line_at lines (place_of function)) x)
+call_of lines n function _ = None
 
-abbrev pub value_item : List Token → ℕ → Expression → Option BlockItem
-value_item tokens n x = elim (out-Expression x) as (λ _. Option BlockItem) [
-  | e.Assign operator target value at ↦ assignment_of tokens n operator target value
-  | e.Call function arguments at ↦ call_of tokens n function arguments
+abbrev pub value_item : List ℕ → ℕ → Expression → Option BlockItem
+value_item lines n x = elim (out-Expression x) as (λ _. Option BlockItem) [
+  | e.Assign operator target value at ↦ assignment_of lines n operator target value
+  | e.Call function arguments at ↦ call_of lines n function arguments
   | _ ↦ None
 ]
 
-abbrev pub statement_item : List Token → ℕ → Statement → Option BlockItem
-statement_item tokens n x = elim (out-Statement x) as (λ _. Option BlockItem) [ t.Value value at ↦ value_item tokens n value | _ ↦ None ]
+abbrev pub statement_item : List ℕ → ℕ → Statement → Option BlockItem
+statement_item lines n x = elim (out-Statement x) as (λ _. Option BlockItem) [ t.Value value at ↦ value_item lines n value | _ ↦ None ]
 
-abbrev pub item_of : List Token → ℕ → TreeItem → Option BlockItem
-item_of tokens n x = elim (out-BlockItem x) as (λ _. Option BlockItem) [ b.Declared declaration ↦ declaration_of tokens n declaration | b.Run statement ↦ statement_item tokens n statement ]
+abbrev pub item_of : List ℕ → ℕ → TreeItem → Option BlockItem
+item_of lines n x = elim (out-BlockItem x) as (λ _. Option BlockItem) [ b.Declared declaration ↦ declaration_of lines n declaration | b.Run statement ↦ statement_item lines n statement ]
 
 -- ---- bodies
 
@@ -181,10 +180,10 @@ returns_zero x = elim (out-BlockItem x) as (λ _. Bool) [
 ]
 
 -- items, and `return 0;` after them
-unfoldable pub body_of : List Token → ℕ → List TreeItem → Option (List BlockItem)
-body_of tokens n [] = None
-body_of tokens n (x ∷ []) = where_true (returns_zero x) (Some [])
-body_of tokens n (x ∷ (y ∷ rest)) = and_then (item_of tokens n x) (λ item. and_then (body_of tokens n (y ∷ rest)) (λ items. Some (item ∷ items)))
+unfoldable pub body_of : List ℕ → ℕ → List TreeItem → Option (List BlockItem)
+body_of lines n [] = None
+body_of lines n (x ∷ []) = where_true (returns_zero x) (Some [])
+body_of lines n (x ∷ (y ∷ rest)) = and_then (item_of lines n x) (λ item. and_then (body_of lines n (y ∷ rest)) (λ items. Some (item ∷ items)))
 
 -- ---- the program
 
@@ -207,16 +206,16 @@ is_none _ = false
 -- `main(void)`
 abbrev pub names_main : Declarator → Bool
 names_main x = elim (out-Declarator x) as (λ _. Bool) [
-  | d.«Declarator::Function» inner parameters variadic at ↦ is_named (codes "main") (name_of inner) && (is_none parameters && not variadic)
+  | d.«Declarator::Function» inner parameters variadic at ↦ is_named (codes "main") (name_of inner) && (is_none parameters && not (is_some variadic))
   | _ ↦ false
 ]
 
-abbrev pub items_of : List Token → List External → Option (List BlockItem)
-items_of tokens (external.Defined specifiers declarator body at ∷ []) =
-    where_true (is_some (int_place specifiers) && names_main declarator) (body_of tokens (length tokens) body)
-items_of tokens _ = None
+abbrev pub items_of : List ℕ → List External → Option (List BlockItem)
+items_of lines (external.Defined specifiers declarator body at ∷ []) =
+    where_true (is_some (int_place specifiers) && names_main declarator) (body_of lines (length lines) body)
+items_of lines _ = None
 
--- the tree of these tokens is that of a straight program: one function `main` of declarations, assignments and assertions
-pub record IsStraight (tokens : List Token) (tree : Tree) (program : Program) : Type 0 where
-  pub items : items_of tokens tree.externals ≡ Some program.items
+-- the tree is that of a straight program: one function `main` of declarations, assignments and assertions
+pub record IsStraight (tree : Tree) (program : Program) : Type 0 where
+  pub items : items_of tree.lines tree.externals ≡ Some program.items
   pub scoped : AreScoped [] program.items

@@ -6,8 +6,7 @@ ghost use Rattle.std.specs.Option.{option_map};
 ghost use Rattle.c_straight.specs.Straight as spec;
 
 use crate::sums::sum;
-use c_model::{BlockItem, Relation, Sum};
-use c_tokens::Token;
+use c_straight_model::{BlockItem, Relation, Sum};
 use c_tree::{
     AssignOperator, BaseWord, BinaryOperator, BlockItem as Item, Declaration, Declarator, Declared,
     Expression, Initialiser, Specifier, Statement,
@@ -17,9 +16,10 @@ use std::alloc::Global;
 
 /// What items are read with.
 #[derive(Clone, Copy)]
-pub struct Reader<'t> {
+pub struct Straightener<'t> {
     pub alloc: Global,
-    pub tokens: &'t [Token],
+    /// The line of each token.
+    pub lines: &'t [u32],
     /// How many operands a sum may have.
     pub depth: usize,
 }
@@ -69,6 +69,7 @@ pub fn int_place(list: &[Specifier]) -> Option<usize>
     }
 }
 
+/// The comparison that an operator is, if it is one.
 fn relation(operator: BinaryOperator) -> Option<Relation>
     ensures { result ≡ spec.relation_of operator }
 {
@@ -79,17 +80,18 @@ fn relation(operator: BinaryOperator) -> Option<Relation>
     }
 }
 
-impl Reader<'_> {
+impl Straightener<'_> {
     /// The line of the token of this number.
     fn line_at(&self, at: usize) -> u32
-        ensures { result ≡ spec.line_at self.now.tokens.now at }
+        ensures { result ≡ spec.line_at self.now.lines.now at }
     {
-        match self.tokens.get(at) {
-            Some(token) => token.line,
+        match self.lines.get(at) {
+            Some(line) => *line,
             None => 0,
         }
     }
 
+    /// An expression as a sum, if it is one.
     fn sum(&self, x: &Expression) -> Result<Option<Sum>, NoMemory>
         ensures { IfOk result (λ made. made ≡ spec.sum_of self.now.depth x.now) }
     {
@@ -101,14 +103,14 @@ impl Reader<'_> {
         ensures { IfOk result (λ made. made ≡ spec.value_of self.now.depth x.now) }
     {
         match x {
-            Initialiser::Value { value } => self.sum(value),
+            Initialiser::Value { value, .. } => self.sum(value),
             Initialiser::Braces { .. } => Ok(None),
         }
     }
 
     /// `name = sum` after `int`, which stands at a token.
     fn declared(&self, at: usize, names: &[Declared]) -> Result<Option<BlockItem>, NoMemory>
-        ensures { IfOk result (λ made. made ≡ spec.declared_by self.now.tokens.now self.now.depth at names.now) }
+        ensures { IfOk result (λ made. made ≡ spec.declared_by self.now.lines.now self.now.depth at names.now) }
     {
         let [
             Declared::Initialised {
@@ -135,7 +137,7 @@ impl Reader<'_> {
 
     /// `int name = sum;`
     fn declaration(&self, x: &Declaration) -> Result<Option<BlockItem>, NoMemory>
-        ensures { IfOk result (λ made. made ≡ spec.declaration_of self.now.tokens.now self.now.depth x.now) }
+        ensures { IfOk result (λ made. made ≡ spec.declaration_of self.now.lines.now self.now.depth x.now) }
     {
         let Some(at) = int_place(x.specifiers.as_slice()) else {
             return Ok(None);
@@ -150,7 +152,7 @@ impl Reader<'_> {
         target: &Expression,
         value: &Expression,
     ) -> Result<Option<BlockItem>, NoMemory>
-        ensures { IfOk result (λ made. made ≡ spec.assignment_of self.now.tokens.now self.now.depth operator target.now value.now) }
+        ensures { IfOk result (λ made. made ≡ spec.assignment_of self.now.lines.now self.now.depth operator target.now value.now) }
     {
         if operator != AssignOperator::Plain {
             return Ok(None);
@@ -168,6 +170,7 @@ impl Reader<'_> {
         }))
     }
 
+    /// An assertion that compares two sums, if both are sums.
     fn comparison(
         &self,
         line: u32,
@@ -215,7 +218,7 @@ impl Reader<'_> {
         function: &Expression,
         arguments: &[Expression],
     ) -> Result<Option<BlockItem>, NoMemory>
-        ensures { IfOk result (λ made. made ≡ spec.call_of self.now.tokens.now self.now.depth function.now arguments.now) }
+        ensures { IfOk result (λ made. made ≡ spec.call_of self.now.lines.now self.now.depth function.now arguments.now) }
     {
         let [argument] = arguments else {
             return Ok(None);
@@ -228,7 +231,7 @@ impl Reader<'_> {
 
     /// What an expression statement is.
     fn value_item(&self, x: &Expression) -> Result<Option<BlockItem>, NoMemory>
-        ensures { IfOk result (λ made. made ≡ spec.value_item self.now.tokens.now self.now.depth x.now) }
+        ensures { IfOk result (λ made. made ≡ spec.value_item self.now.lines.now self.now.depth x.now) }
     {
         match x {
             Expression::Assign {
@@ -246,8 +249,9 @@ impl Reader<'_> {
         }
     }
 
+    /// A statement as an item, if it is one.
     fn statement(&self, x: &Statement) -> Result<Option<BlockItem>, NoMemory>
-        ensures { IfOk result (λ made. made ≡ spec.statement_item self.now.tokens.now self.now.depth x.now) }
+        ensures { IfOk result (λ made. made ≡ spec.statement_item self.now.lines.now self.now.depth x.now) }
     {
         match x {
             Statement::Value { value, .. } => self.value_item(value),
@@ -257,7 +261,7 @@ impl Reader<'_> {
 
     /// The item of a straight program that an item of a block is.
     pub fn item(&self, x: &Item) -> Result<Option<BlockItem>, NoMemory>
-        ensures { IfOk result (λ made. made ≡ spec.item_of self.now.tokens.now self.now.depth x.now) }
+        ensures { IfOk result (λ made. made ≡ spec.item_of self.now.lines.now self.now.depth x.now) }
     {
         match x {
             Item::Declared { declaration } => self.declaration(declaration),

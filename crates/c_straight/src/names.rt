@@ -4,7 +4,7 @@ ghost use Rattle.std.specs.Prelude.{◌≡◌, ◌↔◌, IsTrue, [], Contains, 
 ghost use Rattle.c_straight.specs.Names.{reserved, scope_after, IsOperand, AreOperands, IsScoped, AreScoped};
 ghost use Rattle.c_straight.specs.Scope.{in_scope};
 
-use c_model::{BlockItem, Operand, Sum};
+use c_straight_model::{BlockItem, Operand, Sum};
 use kv_base::NoMemory;
 use std::alloc::Global;
 
@@ -45,12 +45,14 @@ static RESERVED: [&[u8]; 33] = [
     b"nondet_ulonglong",
 ];
 
+/// Whether no object may have this name.
 fn is_reserved(text: &[u8]) -> bool
     ensures { IsTrue result ↔ Contains reserved text.now }
 {
     RESERVED.contains(&text)
 }
 
+/// Whether a name is declared so far.
 fn is_declared(names: &[&[u8]], name: &[u8]) -> bool
     ensures { IsTrue result ↔ Contains (in_scope names.now) name.now }
 {
@@ -67,6 +69,7 @@ fn is_operand(names: &[&[u8]], operand: &Operand) -> bool
     }
 }
 
+/// Whether the names of a sum are declared so far.
 fn are_operands(names: &[&[u8]], sum: &Sum) -> bool
     ensures { IsTrue result ↔ AreOperands (in_scope names.now) sum.now }
 {

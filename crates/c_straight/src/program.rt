@@ -1,15 +1,14 @@
 //! Straight programs (C11 6.9.1).
 
 ghost use Rattle.std.specs.Prelude.{◌≡◌, Some, [], IfOk, IfSome, IfNone, length};
-ghost use Rattle.c_model.specs.declared.program.Program.{Program};
+ghost use Rattle.c_straight_model.specs.declared.program.Program.{Program};
 ghost use Rattle.c_straight.specs.Straight as spec;
 ghost use Rattle.c_straight.specs.Straight.{IsStraight};
 
-use crate::items::{Reader, int_place, is_named, name_of};
+use crate::items::{Straightener, int_place, is_named, name_of};
 use crate::names::are_scoped;
 use crate::sums::operand;
-use c_model::{BlockItems, Operand, Program};
-use c_tokens::Token;
+use c_straight_model::{BlockItems, Operand, Program};
 use c_tree::{
     BaseWord, BlockItem, Declarator, Expression, External, Parameter, Specifier, Statement, Tree,
 };
@@ -18,8 +17,8 @@ use std::alloc::Global;
 
 /// The items of a body that ends with `return 0;`.
 #[tactic(auto, using(crate::proofs::Bodies::body_next, crate::proofs::Bodies::body_stops, crate::proofs::Bodies::body_closed, crate::proofs::Bodies::body_open, crate::proofs::Bodies::body_none))]
-fn body(reader: &Reader<'_>, items: &[BlockItem]) -> Result<Option<BlockItems>, NoMemory>
-    ensures { IfOk result (λ made. made ≡ spec.body_of reader.now.tokens.now reader.now.depth items.now) }
+fn body(reader: &Straightener<'_>, items: &[BlockItem]) -> Result<Option<BlockItems>, NoMemory>
+    ensures { IfOk result (λ made. made ≡ spec.body_of reader.now.lines.now reader.now.depth items.now) }
 {
     let mut found = BlockItems::new(reader.alloc);
     'items: for (at, item) in items.iter().enumerate() {
@@ -62,6 +61,7 @@ fn returns_zero(alloc: Global, x: &BlockItem) -> Result<bool, NoMemory>
     }
 }
 
+/// Whether the specifiers are `void` alone.
 fn is_void(list: &[Specifier]) -> bool
     ensures { result ≡ spec.is_void list.now }
 {
@@ -96,15 +96,17 @@ fn names_main(x: &Declarator) -> bool
             variadic,
             ..
         } => {
-            is_named(b"main", name_of(inner.get())) && is_none(parameters.as_slice()) && !*variadic
+            is_named(b"main", name_of(inner.get()))
+                && is_none(parameters.as_slice())
+                && variadic.is_none()
         }
         _ => false,
     }
 }
 
 /// The items of the one function of a text.
-fn items(reader: &Reader<'_>, externals: &[External]) -> Result<Option<BlockItems>, NoMemory>
-    ensures { IfOk result (λ made. reader.now.depth ≡ length reader.now.tokens.now → made ≡ spec.items_of reader.now.tokens.now externals.now) }
+fn items(reader: &Straightener<'_>, externals: &[External]) -> Result<Option<BlockItems>, NoMemory>
+    ensures { IfOk result (λ made. reader.now.depth ≡ length reader.now.lines.now → made ≡ spec.items_of reader.now.lines.now externals.now) }
 {
     let [
         External::Defined {
@@ -123,16 +125,16 @@ fn items(reader: &Reader<'_>, externals: &[External]) -> Result<Option<BlockItem
     body(reader, inside.as_slice())
 }
 
-/// The straight program that a tree of these tokens is, if it is one: one function `main` of declarations, assignments
+/// The straight program that a tree is, if it is one: one function `main` of declarations, assignments
 /// and assertions over `int` objects, each declared before it is used.
-pub fn straight(alloc: Global, tokens: &[Token], tree: &Tree) -> Result<Option<Program>, NoMemory>
-    ensures found { IfOk result (λ made. IfSome made (IsStraight tokens.now tree.now)) }
-    ensures none { IfOk result (λ made. IfNone made ((program : Program) → IsStraight tokens.now tree.now program → ⊥)) }
+pub fn straight(alloc: Global, tree: &Tree) -> Result<Option<Program>, NoMemory>
+    ensures found { IfOk result (λ made. IfSome made (IsStraight tree.now)) }
+    ensures none { IfOk result (λ made. IfNone made ((program : Program) → IsStraight tree.now program → ⊥)) }
 {
-    let reader = Reader {
+    let reader = Straightener {
         alloc,
-        tokens,
-        depth: tokens.len(),
+        lines: tree.lines.as_slice(),
+        depth: tree.lines.len(),
     };
     let Some(items) = items(&reader, tree.externals.as_slice())? else {
         return Ok(None);

@@ -3,7 +3,7 @@
 ghost use Rattle.std.specs.Prelude.{◌≡◌, IfOk, Some};
 ghost use Rattle.c_straight.specs.Straight as spec;
 
-use c_model::{Addend, Operand, Sign, Sum};
+use c_straight_model::{Addend, Operand, Sign, Sum};
 use c_tree::{BinaryOperator, Expression};
 use kv_base::{Copied, NoMemory, Sequence};
 use kv_num::IntType;

@@ -8,5 +8,5 @@ mod token;
 
 pub use data_model::DataModel;
 pub use left_out::left_out_text;
-pub use limits::{MAX_BYTES, MAX_NAME_BYTES, MAX_TOKENS};
+pub use limits::{MAX_BYTES, MAX_DEPTH, MAX_NAME_BYTES, MAX_NESTING, MAX_TOKENS};
 pub use token::{Token, TokenKind, Tokens};

@@ -1,4 +1,5 @@
 pub mod Nesting
+pub mod OwnTokens
 pub mod Places
 pub mod Signs
 pub mod Spells

@@ -266,19 +266,19 @@ mutual
     -- 6.7.6.3: the parameters are a block of their own
     function_empty : (p q : Place) (name : List ℕ) (parameters : Option (List Entry)) (inner : Declarator) → IsDirect kinds p q name parameters inner
         → At kinds q token.LeftParenthesis → At kinds (next q) token.RightParenthesis
-        → IsDirect kinds p (next (next q)) name (nearest parameters []) (declarator_node.Function inner [] false q.at)
-    function_parameters : (p q r : Place) (name : List ℕ) (parameters : Option (List Entry)) (inner : Declarator) (list : List Parameter) (variadic : Bool)
+        → IsDirect kinds p (next (next q)) name (nearest parameters []) (declarator_node.Function inner [] None q.at)
+    function_parameters : (p q r : Place) (name : List ℕ) (parameters : Option (List Entry)) (inner : Declarator) (list : List Parameter) (variadic : Option ℕ)
         → IsDirect kinds p q name parameters inner → At kinds q token.LeftParenthesis → AreParameters kinds (enter (next q)) r list variadic
         → At kinds r token.RightParenthesis
         → IsDirect kinds p (leave (next r)) name (nearest parameters (first_of r.blocks)) (declarator_node.Function inner list variadic q.at)
 
-  -- 6.7.6: one or more parameters; whether `, ...` ends them
-  pub data AreParameters (kinds : List TokenKind) : Place → Place → List Parameter → Bool → Type 0 where
-    one_parameter : (p q : Place) (x : Parameter) → IsParameter kinds p q x → AreParameters kinds p q (x ∷ []) false
+  -- 6.7.6: one or more parameters; the number of the `...` that ends them
+  pub data AreParameters (kinds : List TokenKind) : Place → Place → List Parameter → Option ℕ → Type 0 where
+    one_parameter : (p q : Place) (x : Parameter) → IsParameter kinds p q x → AreParameters kinds p q (x ∷ []) None
     variadic_parameters : (p q : Place) (x : Parameter) → IsParameter kinds p q x → At kinds q token.Comma → At kinds (next q) token.Ellipsis
-        → AreParameters kinds p (next (next q)) (x ∷ []) true
-    more_parameters : (p q r : Place) (x : Parameter) (further : List Parameter) (is_variadic : Bool) → IsParameter kinds p q x → At kinds q token.Comma
-        → AreParameters kinds (next q) r further is_variadic → AreParameters kinds p r (x ∷ further) is_variadic
+        → AreParameters kinds p (next (next q)) (x ∷ []) (Some (next q).at)
+    more_parameters : (p q r : Place) (x : Parameter) (further : List Parameter) (variadic : Option ℕ) → IsParameter kinds p q x → At kinds q token.Comma
+        → AreParameters kinds (next q) r further variadic → AreParameters kinds p r (x ∷ further) variadic
 
   -- a parameter's name is declared from the end of its declarator on (6.2.1p7); `typedef` has no meaning there
   pub data IsParameter (kinds : List TokenKind) : Place → Place → Parameter → Type 0 where

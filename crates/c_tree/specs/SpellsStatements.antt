@@ -27,7 +27,7 @@ use Rattle.c_tree.specs.Spells.{IsExpression, AreSpecifiers, IsDecorated}
 mutual
   -- 6.7.9: an assignment expression, or parts in braces, which a comma may end
   pub data IsInitialiser (kinds : List TokenKind) : Place → Place → Initialiser → Type 0 where
-    value_initialiser : (p q : Place) (x : Expression) → IsExpression kinds 1 p q x → IsInitialiser kinds p q (initialiser_node.Value x)
+    value_initialiser : (p q : Place) (x : Expression) → IsExpression kinds 1 p q x → IsInitialiser kinds p q (initialiser_node.Value x p.at)
     braces : (p q : Place) (parts : List Initialiser) → At kinds p token.LeftBrace → AreParts kinds (next p) q parts → At kinds q token.RightBrace
         → IsInitialiser kinds p (next q) (initialiser_node.Braces parts p.at)
 

@@ -37,12 +37,16 @@ pub data AreExternals (kinds : List TokenKind) : Place → Place → List Extern
 abbrev pub kinds_of : List Token → List TokenKind
 kinds_of tokens = map (λ token. token.kind) tokens
 
+abbrev pub lines_of : List Token → List ℕ
+lines_of tokens = map (λ token. token.line) tokens
+
 -- before the first token, where nothing is declared
 abbrev pub beginning : Place
 beginning = record { at = 0; blocks = [] ∷ [] }
 
--- the tokens spell the tree of a translation unit (6.9)
+-- the tokens spell the tree of a translation unit (6.9), which has their lines
 pub record Spells (tokens : List Token) (tree : Tree) : Type 0 where
   pub end : Place
   pub all : end.at ≡ length tokens
   pub spelled : AreExternals (kinds_of tokens) beginning end tree.externals
+  pub lines_are : tree.lines ≡ lines_of tokens

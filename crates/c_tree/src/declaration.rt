@@ -9,9 +9,10 @@ use sqlite_items::Items;
 /// An initialiser (C11 6.7.9).
 #[derive(Debug, Drop)]
 pub enum Initialiser {
-    /// An expression.
+    /// An expression, at its first token: where it begins with a bracket, at that.
     Value {
         value: Expression,
+        at: usize,
     },
     /// `{ parts }`, at the `{`.
     Braces {
@@ -68,8 +69,12 @@ pub enum External {
 /// The external declarations of a text, in order.
 pub type Externals = Sequence<External>;
 
+/// The line of each token of a text, in order, counted from 1.
+pub type TokenLines = Sequence<u32>;
+
 /// The tree of a text: a translation unit (6.9).
 #[derive(Debug, Drop)]
 pub struct Tree {
     pub externals: Externals,
+    pub lines: TokenLines,
 }

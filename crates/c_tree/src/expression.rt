@@ -347,11 +347,11 @@ pub enum Declarator {
         inner: Boxed<Declarator>,
         at: usize,
     },
-    /// `inner(parameters)`, at the `(`; `variadic` where `, ...` ends the parameters (6.7.6.3).
+    /// `inner(parameters)`, at the `(`; `variadic` is the number of the `...` that ends the parameters (6.7.6.3).
     Function {
         inner: Boxed<Declarator>,
         parameters: Items<Parameter>,
-        variadic: bool,
+        variadic: Option<usize>,
         at: usize,
     },
 }

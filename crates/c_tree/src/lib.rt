@@ -7,7 +7,7 @@ mod scope;
 mod statement;
 
 pub use declaration::{
-    Declaration, Declared, DeclaredNames, External, Externals, Initialiser, Tree,
+    Declaration, Declared, DeclaredNames, External, Externals, Initialiser, TokenLines, Tree,
 };
 pub use expression::{
     AssignOperator, BaseWord, BinaryOperator, Declarator, EnumConstant, Expression, FunctionWord,

@@ -14,8 +14,9 @@ pub fn copy_initialiser(alloc: Global, x: &Initialiser) -> Result<Initialiser, N
     ensures { IfOk result (λ made. made ≡ x.now) }
 {
     match x {
-        Initialiser::Value { value } => Ok(Initialiser::Value {
+        Initialiser::Value { value, at } => Ok(Initialiser::Value {
             value: copy_expression(alloc, value)?,
+            at: *at,
         }),
         Initialiser::Braces { parts, at } => Ok(Initialiser::Braces {
             parts: copy_initialisers(alloc, parts)?,

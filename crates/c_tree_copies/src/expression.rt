@@ -3,6 +3,7 @@
 
 ghost use Rattle.std.specs.Prelude.{◌≡◌, IfOk};
 
+use c_boxes::{all_three, both};
 use c_tree::{
     Declarator, EnumConstant, Expression, Member, MemberLine, Parameter, Specifier, TypeName,
 };
@@ -26,30 +27,45 @@ pub fn copy_expression(alloc: Global, x: &Expression) -> Result<Expression, NoMe
             at: *at,
         }),
         Expression::Text { at } => Ok(Expression::Text { at: *at }),
-        Expression::Subscript { array, index, at } => Ok(Expression::Subscript {
-            array: copy_boxed(alloc, array)?,
-            index: copy_boxed(alloc, index)?,
-            at: *at,
-        }),
+        Expression::Subscript { array, index, at } => {
+            let (array, index) = both(copy_boxed(alloc, array), copy_boxed(alloc, index))?;
+            Ok(Expression::Subscript {
+                array,
+                index,
+                at: *at,
+            })
+        }
         Expression::Call {
             function,
             arguments,
             at,
-        } => Ok(Expression::Call {
-            function: copy_boxed(alloc, function)?,
-            arguments: copy_expressions(alloc, arguments)?,
-            at: *at,
-        }),
-        Expression::Member { object, name, at } => Ok(Expression::Member {
-            object: copy_boxed(alloc, object)?,
-            name: name.copy(alloc)?,
-            at: *at,
-        }),
-        Expression::PointedMember { pointer, name, at } => Ok(Expression::PointedMember {
-            pointer: copy_boxed(alloc, pointer)?,
-            name: name.copy(alloc)?,
-            at: *at,
-        }),
+        } => {
+            let (function, arguments) = both(
+                copy_boxed(alloc, function),
+                copy_expressions(alloc, arguments),
+            )?;
+            Ok(Expression::Call {
+                function,
+                arguments,
+                at: *at,
+            })
+        }
+        Expression::Member { object, name, at } => {
+            let (object, name) = both(copy_boxed(alloc, object), name.copy(alloc))?;
+            Ok(Expression::Member {
+                object,
+                name,
+                at: *at,
+            })
+        }
+        Expression::PointedMember { pointer, name, at } => {
+            let (pointer, name) = both(copy_boxed(alloc, pointer), name.copy(alloc))?;
+            Ok(Expression::PointedMember {
+                pointer,
+                name,
+                at: *at,
+            })
+        }
         Expression::Postfix { step, operand, at } => Ok(Expression::Postfix {
             step: *step,
             operand: copy_boxed(alloc, operand)?,
@@ -81,44 +97,63 @@ pub fn copy_expression(alloc: Global, x: &Expression) -> Result<Expression, NoMe
             type_name,
             operand,
             at,
-        } => Ok(Expression::Cast {
-            type_name: copy_boxed_type(alloc, type_name)?,
-            operand: copy_boxed(alloc, operand)?,
-            at: *at,
-        }),
+        } => {
+            let (type_name, operand) = both(
+                copy_boxed_type(alloc, type_name),
+                copy_boxed(alloc, operand),
+            )?;
+            Ok(Expression::Cast {
+                type_name,
+                operand,
+                at: *at,
+            })
+        }
         Expression::Binary {
             operator,
             left,
             right,
             at,
-        } => Ok(Expression::Binary {
-            operator: *operator,
-            left: copy_boxed(alloc, left)?,
-            right: copy_boxed(alloc, right)?,
-            at: *at,
-        }),
+        } => {
+            let (left, right) = both(copy_boxed(alloc, left), copy_boxed(alloc, right))?;
+            Ok(Expression::Binary {
+                operator: *operator,
+                left,
+                right,
+                at: *at,
+            })
+        }
         Expression::Conditional {
             test,
             then,
             otherwise,
             at,
-        } => Ok(Expression::Conditional {
-            test: copy_boxed(alloc, test)?,
-            then: copy_boxed(alloc, then)?,
-            otherwise: copy_boxed(alloc, otherwise)?,
-            at: *at,
-        }),
+        } => {
+            let (test, then, otherwise) = all_three(
+                copy_boxed(alloc, test),
+                copy_boxed(alloc, then),
+                copy_boxed(alloc, otherwise),
+            )?;
+            Ok(Expression::Conditional {
+                test,
+                then,
+                otherwise,
+                at: *at,
+            })
+        }
         Expression::Assign {
             operator,
             target,
             value,
             at,
-        } => Ok(Expression::Assign {
-            operator: *operator,
-            target: copy_boxed(alloc, target)?,
-            value: copy_boxed(alloc, value)?,
-            at: *at,
-        }),
+        } => {
+            let (target, value) = both(copy_boxed(alloc, target), copy_boxed(alloc, value))?;
+            Ok(Expression::Assign {
+                operator: *operator,
+                target,
+                value,
+                at: *at,
+            })
+        }
         Expression::Comma { parts, at } => Ok(Expression::Comma {
             parts: copy_expressions(alloc, parts)?,
             at: *at,
@@ -159,9 +194,13 @@ fn copy_boxed_type(alloc: Global, x: &Boxed<TypeName>) -> Result<Boxed<TypeName>
 pub fn copy_type_name(alloc: Global, x: &TypeName) -> Result<TypeName, NoMemory>
     ensures { IfOk result (λ made. made ≡ x.now) }
 {
+    let (specifiers, declarator) = both(
+        copy_specifiers(alloc, &x.specifiers),
+        copy_declarator(alloc, &x.declarator),
+    )?;
     Ok(TypeName {
-        specifiers: copy_specifiers(alloc, &x.specifiers)?,
-        declarator: copy_declarator(alloc, &x.declarator)?,
+        specifiers,
+        declarator,
     })
 }
 
@@ -216,20 +255,29 @@ pub fn copy_specifier(alloc: Global, x: &Specifier) -> Result<Specifier, NoMemor
             kind: *kind,
             at: *at,
         }),
-        Specifier::Struct { tag, lines, at } => Ok(Specifier::Struct {
-            tag: copy_tag(alloc, tag)?,
-            lines: copy_member_lines(alloc, lines)?,
-            at: *at,
-        }),
+        Specifier::Struct { tag, lines, at } => {
+            let (tag, lines) = both(copy_tag(alloc, tag), copy_member_lines(alloc, lines))?;
+            Ok(Specifier::Struct {
+                tag,
+                lines,
+                at: *at,
+            })
+        }
         Specifier::StructTag { tag, at } => Ok(Specifier::StructTag {
             tag: tag.copy(alloc)?,
             at: *at,
         }),
-        Specifier::Enum { tag, constants, at } => Ok(Specifier::Enum {
-            tag: copy_tag(alloc, tag)?,
-            constants: copy_enum_constants(alloc, constants)?,
-            at: *at,
-        }),
+        Specifier::Enum { tag, constants, at } => {
+            let (tag, constants) = both(
+                copy_tag(alloc, tag),
+                copy_enum_constants(alloc, constants),
+            )?;
+            Ok(Specifier::Enum {
+                tag,
+                constants,
+                at: *at,
+            })
+        }
         Specifier::EnumTag { tag, at } => Ok(Specifier::EnumTag {
             tag: tag.copy(alloc)?,
             at: *at,
@@ -261,9 +309,13 @@ fn copy_member_lines(
 pub fn copy_member_line(alloc: Global, x: &MemberLine) -> Result<MemberLine, NoMemory>
     ensures { IfOk result (λ made. made ≡ x.now) }
 {
+    let (specifiers, members) = both(
+        copy_specifiers(alloc, &x.specifiers),
+        copy_members(alloc, &x.members),
+    )?;
     Ok(MemberLine {
-        specifiers: copy_specifiers(alloc, &x.specifiers)?,
-        members: copy_members(alloc, &x.members)?,
+        specifiers,
+        members,
     })
 }
 
@@ -292,11 +344,17 @@ pub fn copy_member(alloc: Global, x: &Member) -> Result<Member, NoMemory>
             declarator: inner,
             width,
             at,
-        } => Ok(Member::BitField {
-            declarator: copy_declarator(alloc, inner)?,
-            width: copy_expression(alloc, width)?,
-            at: *at,
-        }),
+        } => {
+            let (declarator, width) = both(
+                copy_declarator(alloc, inner),
+                copy_expression(alloc, width),
+            )?;
+            Ok(Member::BitField {
+                declarator,
+                width,
+                at: *at,
+            })
+        }
         Member::UnnamedBitField { width, at } => Ok(Member::UnnamedBitField {
             width: copy_expression(alloc, width)?,
             at: *at,
@@ -329,11 +387,14 @@ pub fn copy_enum_constant(alloc: Global, x: &EnumConstant) -> Result<EnumConstan
             name: name.copy(alloc)?,
             at: *at,
         }),
-        EnumConstant::Valued { name, value, at } => Ok(EnumConstant::Valued {
-            name: name.copy(alloc)?,
-            value: copy_expression(alloc, value)?,
-            at: *at,
-        }),
+        EnumConstant::Valued { name, value, at } => {
+            let (name, value) = both(name.copy(alloc), copy_expression(alloc, value))?;
+            Ok(EnumConstant::Valued {
+                name,
+                value,
+                at: *at,
+            })
+        }
     }
 }
 
@@ -352,16 +413,25 @@ pub fn copy_declarator(alloc: Global, x: &Declarator) -> Result<Declarator, NoMe
             qualifiers,
             inner,
             at,
-        } => Ok(Declarator::Pointer {
-            qualifiers: Sequence::from_slice(alloc, qualifiers.as_slice())?,
-            inner: copy_boxed_declarator(alloc, inner)?,
-            at: *at,
-        }),
-        Declarator::Array { inner, size, at } => Ok(Declarator::Array {
-            inner: copy_boxed_declarator(alloc, inner)?,
-            size: copy_boxed(alloc, size)?,
-            at: *at,
-        }),
+        } => {
+            let (qualifiers, inner) = both(
+                Sequence::from_slice(alloc, qualifiers.as_slice()),
+                copy_boxed_declarator(alloc, inner),
+            )?;
+            Ok(Declarator::Pointer {
+                qualifiers,
+                inner,
+                at: *at,
+            })
+        }
+        Declarator::Array { inner, size, at } => {
+            let (inner, size) = both(copy_boxed_declarator(alloc, inner), copy_boxed(alloc, size))?;
+            Ok(Declarator::Array {
+                inner,
+                size,
+                at: *at,
+            })
+        }
         Declarator::OpenArray { inner, at } => Ok(Declarator::OpenArray {
             inner: copy_boxed_declarator(alloc, inner)?,
             at: *at,
@@ -371,12 +441,18 @@ pub fn copy_declarator(alloc: Global, x: &Declarator) -> Result<Declarator, NoMe
             parameters: list,
             variadic,
             at,
-        } => Ok(Declarator::Function {
-            inner: copy_boxed_declarator(alloc, inner)?,
-            parameters: copy_parameters(alloc, list)?,
-            variadic: *variadic,
-            at: *at,
-        }),
+        } => {
+            let (inner, parameters) = both(
+                copy_boxed_declarator(alloc, inner),
+                copy_parameters(alloc, list),
+            )?;
+            Ok(Declarator::Function {
+                inner,
+                parameters,
+                variadic: *variadic,
+                at: *at,
+            })
+        }
     }
 }
 
@@ -408,8 +484,12 @@ fn copy_parameters(alloc: Global, items: &Items<Parameter>) -> Result<Items<Para
 pub fn copy_parameter(alloc: Global, x: &Parameter) -> Result<Parameter, NoMemory>
     ensures { IfOk result (λ made. made ≡ x.now) }
 {
+    let (specifiers, declarator) = both(
+        copy_specifiers(alloc, &x.specifiers),
+        copy_declarator(alloc, &x.declarator),
+    )?;
     Ok(Parameter {
-        specifiers: copy_specifiers(alloc, &x.specifiers)?,
-        declarator: copy_declarator(alloc, &x.declarator)?,
+        specifiers,
+        declarator,
     })
 }

@@ -5,7 +5,7 @@ ghost use Rattle.std.specs.Prelude.{◌≡◌, IfOk};
 use crate::declaration::copy_declaration;
 use crate::expression::{copy_declarator, copy_specifiers};
 use crate::statement::copy_block_items;
-use c_tree::{External, Externals, Tree};
+use c_tree::{External, Externals, TokenLines, Tree};
 use kv_base::NoMemory;
 use std::alloc::Global;
 
@@ -49,5 +49,6 @@ pub fn copy_tree(alloc: Global, tree: &Tree) -> Result<Tree, NoMemory>
 {
     Ok(Tree {
         externals: copy_externals(alloc, &tree.externals)?,
+        lines: TokenLines::from_slice(alloc, tree.lines.as_slice())?,
     })
 }

@@ -7,7 +7,7 @@ mod copies;
 use c_tree::{
     BaseWord, BlockItem, Branch, Declaration, Declarator, Declared, DeclaredNames, EnumConstant,
     Expression, External, Externals, Initialiser, Member, MemberLine, Parameter, Qualifier,
-    Specifier, Statement, Tree, TypeName,
+    Specifier, Statement, TokenLines, Tree, TypeName,
 };
 use kv_base::{Bytes, NoMemory, Sequence};
 use kv_num::IntType;
@@ -119,7 +119,10 @@ pub fn structure(alloc: Global) -> Result<Specifier, NoMemory> {
 /// `{7}`
 pub fn braces(alloc: Global) -> Result<Initialiser, NoMemory> {
     let mut parts = Items::new(alloc);
-    parts.push(Initialiser::Value { value: seven() })?;
+    parts.push(Initialiser::Value {
+        value: seven(),
+        at: 6,
+    })?;
     Ok(Initialiser::Braces { parts, at: 5 })
 }
 
@@ -199,5 +202,6 @@ pub fn tree(alloc: Global) -> Result<Tree, NoMemory> {
     let mut externals = Externals::new(alloc);
     externals.push(definition(alloc)?)?;
     externals.push(External::Empty { at: 20 })?;
-    Ok(Tree { externals })
+    let lines = TokenLines::from_slice(alloc, &[1, 1, 2])?;
+    Ok(Tree { externals, lines })
 }

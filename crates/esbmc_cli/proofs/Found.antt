@@ -3,9 +3,9 @@ use Rattle.std.proofs.Common.{◌≡◌, ℕ, List, [], Some, sym, subst, ◌∙
 use Rattle.std.specs.declared.option.Option.{Option}
 use Rattle.std.specs.FinMap.{get}
 use Rattle.kv_port.specs.Folder.{Folder, Lacks}
-use Rattle.c_model.specs.declared.program.Program.{Program}
+use Rattle.c_straight_model.specs.declared.program.Program.{Program}
 use Rattle.c_source.specs.declared.refusal.Refusal.{Refusal}
-use Rattle.c_source.specs.Sources.{Early, Refuses, SpellsOrRefuses}
+use Rattle.c_source.specs.Sources.{SpellsStraight, Refuses, SpellsOrRefuses}
 use Rattle.esbmc_cli.specs.declared.decide.Decided.{Decided}
 use Rattle.esbmc_cli.specs.declared.decide.Decided.TheVariants.{Successful, Failed, Refused, Missing, ReadFault, NoMemory}
 use Rattle.esbmc_cli.specs.Source.{Holds, HasFile}
@@ -15,7 +15,7 @@ same_source : (told : Option Folder) (m : Folder) (name source other : List ℕ)
 same_source told m name source other e f h = let g = h m e in cc
 
 spelled_refused : SpellsOrRefuses → (told : Option Folder) (m : Folder) (name source other : List ℕ) (program : Program) (refusal : Refusal)
-    → told ≡ Some m → get m name ≡ Some source → Holds told name other → Early other program → Refuses source refusal → ⊥
+    → told ≡ Some m → get m name ≡ Some source → Holds told name other → SpellsStraight other program → Refuses source refusal → ⊥
 spelled_refused law told m name source other program refusal e f h early refuses =
     let P : List ℕ → Type 0 = λ s. Refuses s refusal in
     law other program refusal early (subst P (same_source told m name source other e f h) refuses)
@@ -30,12 +30,12 @@ refused_is_refused law told m name source refusal fault ReadFault right e f refu
 refused_is_refused law told m name source refusal fault NoMemory right e f refuses = tt
 
 pub early_is_verified : SpellsOrRefuses → (told : Option Folder) (m : Folder) (name source : List ℕ) (program : Program) (fault : Type 0) (found : Decided)
-    → IsRight told name fault found → told ≡ Some m → get m name ≡ Some source → Early source program → MayVerify found
+    → IsRight told name fault found → told ≡ Some m → get m name ≡ Some source → SpellsStraight source program → MayVerify found
 early_is_verified law told m name source program fault Successful right e f early = tt
 early_is_verified law told m name source program fault (Failed check line) right e f early = tt
 early_is_verified law told m name source program fault (Refused refusal) right e f early =
     let has = right m e in
-    let P : List ℕ → Type 0 = λ s. Early s program in
+    let P : List ℕ → Type 0 = λ s. SpellsStraight s program in
     let same : source ≡ has.0 = let g = has.1 in cc in
     law has.0 program refusal (subst P same early) has.2
 early_is_verified law told m name source program fault Missing right e f early = let g = right m e in cc

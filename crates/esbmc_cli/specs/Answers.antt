@@ -4,7 +4,7 @@ use Rattle.std.specs.declared.option.Option.{Option}
 use Rattle.std.specs.Io.KnownBytes.{Appends}
 use Rattle.kv_port.specs.Causes.{Rose}
 use Rattle.kv_port.specs.Folder.{Folder, Lacks}
-use Rattle.c_model.specs.declared.checks.CheckKind.{CheckKind}
+use Rattle.c_rules.specs.declared.checks.CheckKind.{CheckKind}
 use Rattle.esbmc_cli.specs.declared.outcome.Outcome.{Outcome}
 use Rattle.esbmc_cli.specs.Decided.{SpellsSafe, SpellsBroken}
 use Rattle.esbmc_cli.specs.Source.{Holds, HasFile}

@@ -2,21 +2,21 @@
 use Rattle.std.specs.Prelude.{ℕ, List, []}
 use Rattle.std.specs.declared.option.Option.{Option}
 use Rattle.kv_port.specs.Folder.{Folder, Lacks}
-use Rattle.c_model.specs.declared.checks.CheckKind.{CheckKind}
-use Rattle.c_model.specs.declared.program.Program.{Program}
-use Rattle.c_model.specs.Machine.{Breaks, Safe}
-use Rattle.c_source.specs.Sources.{Early, Refuses}
+use Rattle.c_rules.specs.declared.checks.CheckKind.{CheckKind}
+use Rattle.c_straight_model.specs.declared.program.Program.{Program}
+use Rattle.c_straight_model.specs.Machine.{Breaks, Safe}
+use Rattle.c_source.specs.Sources.{SpellsStraight, Refuses}
 use Rattle.esbmc_cli.specs.declared.decide.Decided.{Decided}
 use Rattle.esbmc_cli.specs.declared.decide.Decided.TheVariants.{Successful, Failed, Refused, Missing, ReadFault, NoMemory}
 use Rattle.esbmc_cli.specs.Source.{Holds, HasFile}
 
 -- the bytes spell a straight program of which no inputs break a check
 abbrev pub SpellsSafe : List ℕ → Type 0
-SpellsSafe source = (program : Program) × Early source program × Safe program
+SpellsSafe source = (program : Program) × SpellsStraight source program × Safe program
 
 -- the bytes spell a straight program that breaks this check at this line
 abbrev pub SpellsBroken : CheckKind → ℕ → List ℕ → Type 0
-SpellsBroken check line source = (program : Program) × Early source program × Breaks program [] check line
+SpellsBroken check line source = (program : Program) × SpellsStraight source program × Breaks program [] check line
 
 -- what is found of these bytes
 abbrev pub IsRightOf : List ℕ → Decided → Type 0

@@ -4,15 +4,15 @@ ghost use Rattle.std.specs.Prelude.{◌≡◌, ◌≤◌, ℕ, List, Some};
 ghost use Rattle.std.specs.FinMap.{get};
 ghost use Rattle.kv_port.specs.Causes.{Rose};
 ghost use Rattle.kv_port.specs.Folder.{Folder};
-ghost use Rattle.c_model.specs.declared.program.Program.{Program};
+ghost use Rattle.c_straight_model.specs.declared.program.Program.{Program};
 ghost use Rattle.c_source.specs.declared.refusal.Refusal.{Refusal};
-ghost use Rattle.c_source.specs.Sources.{Early, Refuses};
+ghost use Rattle.c_source.specs.Sources.{SpellsStraight, Refuses};
 ghost use Rattle.esbmc_cli.specs.Decided.{IsRight, IsRightOf, MayRefuse, MayVerify};
 
 use crate::source::{self, read_file};
-use c_model::CheckKind;
 use c_replay::{RunEnd, replay};
 use c_source::{Refusal, Unread, read_source, spells_or_refuses};
+use c_straight_model::CheckKind;
 use kv_port::Files;
 use std::alloc::Global;
 
@@ -57,12 +57,12 @@ fn decide_file<F: Files>(alloc: Global, files: &mut F, name: &str) -> Decided
 {
     match read_file(alloc, files, name) {
         Ok(bytes) => decide_bytes(alloc, &bytes),
-        Err(source::Unread::Missing) => Decided::Missing,
-        Err(source::Unread::Fault) => Decided::ReadFault,
-        Err(source::Unread::TooLong) => Decided::Refused {
+        Err(source::FileFault::Missing) => Decided::Missing,
+        Err(source::FileFault::Fault) => Decided::ReadFault,
+        Err(source::FileFault::TooLong) => Decided::Refused {
             refusal: Refusal::TooLong,
         },
-        Err(source::Unread::NoMemory) => Decided::NoMemory,
+        Err(source::FileFault::NoMemory) => Decided::NoMemory,
     }
 }
 
@@ -74,7 +74,7 @@ pub fn decide<F: Files>(alloc: Global, files: &mut F, name: &str) -> Decided
     ensures is_refused { (m : Folder) (source : List ℕ) (refusal : Refusal) → F.told files.old ≡ Some m → get m name.now ≡ Some source
         → Refuses source refusal → MayRefuse result }
     ensures is_verified { (m : Folder) (source : List ℕ) (program : Program) → F.told files.old ≡ Some m → get m name.now ≡ Some source
-        → Early source program → MayVerify result }
+        → SpellsStraight source program → MayVerify result }
     ensures folder { F.told files.new ≡ F.told files.old }
     ensures later { F.faults files.old ≤ F.faults files.new }
 {

@@ -3,11 +3,12 @@
 ghost use Rattle.std.specs.Prelude.{◌≡◌, ◌++◌, IfOk, codes, string_bytes};
 ghost use Rattle.esbmc_cli.specs.Texts.{check_text, failed_text, successful_text, usage_text, refused_text, line_text, read_fault_text, missing_text};
 
-use c_model::CheckKind;
 use c_source::Refusal;
+use c_straight_model::CheckKind;
 use kv_base::NoMemory;
 use std::alloc::Global;
 
+/// How a check is called in print.
 fn check_name(check: CheckKind) -> &'static str
     ensures { result.now ≡ check_text check }
 {
@@ -22,6 +23,7 @@ fn check_name(check: CheckKind) -> &'static str
     }
 }
 
+/// The text for a check that can break, and its line.
 pub fn failed(alloc: Global, check: CheckKind, line: u32) -> Result<String, NoMemory>
     ensures { IfOk result (λ text. string_bytes text ≡ failed_text check line) }
 {
@@ -29,30 +31,35 @@ pub fn failed(alloc: Global, check: CheckKind, line: u32) -> Result<String, NoMe
     format!(in alloc; "violated: {name} at line {line}\nVERIFICATION FAILED\n")
 }
 
+/// The text where no check can break.
 pub fn successful() -> &'static [u8]
     ensures { result.now ≡ successful_text }
 {
     b"VERIFICATION SUCCESSFUL\n"
 }
 
+/// How the program is called.
 pub fn usage() -> &'static [u8]
     ensures { result.now ≡ usage_text }
 {
     b"usage: esbmc_k [options] FILE\n"
 }
 
+/// An error with its line.
 fn at_line(alloc: Global, line: u32, text: &str) -> Result<String, NoMemory>
     ensures { IfOk result (λ made. string_bytes made ≡ line_text line text.now) }
 {
     format!(in alloc; "error: line {line}: {text}\n")
 }
 
+/// The error for a word that the accepted C leaves out.
 fn left_out(alloc: Global, word: &str, line: u32) -> Result<String, NoMemory>
     ensures { IfOk result (λ made. string_bytes made ≡ line_text line (codes "left out: " ++ word.now)) }
 {
     format!(in alloc; "error: line {line}: left out: {word}\n")
 }
 
+/// The text of a refusal.
 pub fn refused(alloc: Global, refusal: Refusal) -> Result<String, NoMemory>
     ensures { IfOk result (λ text. string_bytes text ≡ refused_text refusal) }
 {
@@ -69,12 +76,14 @@ pub fn refused(alloc: Global, refusal: Refusal) -> Result<String, NoMemory>
     }
 }
 
+/// The text where the file couldn't be read.
 pub fn read_fault() -> &'static [u8]
     ensures { result.now ≡ read_fault_text }
 {
     b"error: read fault\n"
 }
 
+/// The text where there is no such file.
 pub fn missing() -> &'static [u8]
     ensures { result.now ≡ missing_text }
 {

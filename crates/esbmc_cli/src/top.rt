@@ -4,9 +4,9 @@ ghost use Rattle.std.specs.Io.KnownBytes.{Keeps};
 ghost use Rattle.std.specs.Option.{option_map};
 ghost use Rattle.kv_port.specs.Causes.{Rose};
 ghost use Rattle.kv_port.specs.Folder.{Folder};
-ghost use Rattle.c_model.specs.declared.program.Program.{Program};
+ghost use Rattle.c_straight_model.specs.declared.program.Program.{Program};
 ghost use Rattle.c_source.specs.declared.refusal.Refusal.{Refusal};
-ghost use Rattle.c_source.specs.Sources.{Early, Refuses};
+ghost use Rattle.c_source.specs.Sources.{SpellsStraight, Refuses};
 ghost use Rattle.esbmc_cli.specs.Answers.{file_of, OneOf, HasStatus, Prints, IsSuccessful, IsFailed, IsUsage, IsRefused, IsReadFault, IsMissing};
 
 use crate::decide::{Decided, decide};
@@ -16,6 +16,7 @@ use kv_port::{Files, Sink};
 use std::alloc::Global;
 
 // The one word that names a file.
+/// The file that a command line names, if it names exactly one.
 fn named(words: &[String]) -> Option<&str>
     ensures { option_map (λ name. name.now) result ≡ file_of (map string_bytes words.now) }
 {
@@ -32,6 +33,7 @@ fn named(words: &[String]) -> Option<&str>
 }
 
 // A call that prints nothing.
+/// The end of a run in which memory ran out: nothing is written.
 fn silent() -> Outcome
     ensures { result ≡ record { status = 8; meant = 8 } }
 {
@@ -61,7 +63,7 @@ pub fn run_alone<F: Files, W: Sink>(
 
     // One of them, exactly where a told file spells a straight program, unless a read fails or memory runs out.
     ensures is_verified { (m : Folder) (name source : List ℕ) (program : Program) → file_of (map string_bytes words.now) ≡ Some name
-        → F.told files.old ≡ Some m → get m name ≡ Some source → Early source program → OneOf (0 ∷ 1 ∷ 6 ∷ 8 ∷ []) result.meant }
+        → F.told files.old ≡ Some m → get m name ≡ Some source → SpellsStraight source program → OneOf (0 ∷ 1 ∷ 6 ∷ 8 ∷ []) result.meant }
 
     // 4, exactly where the words name no file, unless memory runs out.
     ensures usage { result.meant ≡ 4 → IsUsage (file_of (map string_bytes words.now))

@@ -1,7 +1,7 @@
 //! The machine on programs made by hand.
 
-use c_model::{Addend, BlockItem, CheckKind, Operand, Program, Relation, Sign, Sum};
 use c_replay::{RunEnd, replay};
+use c_straight_model::{Addend, BlockItem, CheckKind, Operand, Program, Relation, Sign, Sum};
 use kv_base::{Bytes, Copied, NoMemory, Sequence};
 use std::alloc::Global;
 use std::test::Fail;

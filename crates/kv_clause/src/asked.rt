@@ -27,6 +27,7 @@ pub fn asked_literals(alloc: Global, t: &Template, q: &Query) -> Result<Lits, No
     }
 }
 
+/// The breaks of the last of k blocks, with the bounds before each block.
 fn breaking_under(alloc: Global, t: &Template, under: &Bounds, k: u32) -> Result<Lits, NoMemory>
     requires some { 1 ≤ k }
     requires few { k ≤ 256 }
@@ -41,6 +42,7 @@ fn breaking_under(alloc: Global, t: &Template, under: &Bounds, k: u32) -> Result
     Ok(made)
 }
 
+/// The breaks of the last of k blocks.
 fn breaking(alloc: Global, t: &Template, k: u32) -> Result<Lits, NoMemory>
     requires some { 1 ≤ k }
     requires few { k ≤ 256 }
@@ -51,6 +53,7 @@ fn breaking(alloc: Global, t: &Template, k: u32) -> Result<Lits, NoMemory>
     Ok(made)
 }
 
+/// The arrivals of k blocks.
 pub(crate) fn arriving(alloc: Global, t: &Template, k: u32) -> Result<Lits, NoMemory>
     requires { k ≤ 256 }
     ensures { IfOk result (λ ls. ls ≡ arrivals t.now k) }
@@ -72,6 +75,7 @@ pub fn in_block(t: &Template, i: u32, lit: Lit) -> Lit
 }
 
 // What literals of the template are in block i.
+/// These literals, in block i.
 fn in_block_each(alloc: Global, t: &Template, i: u32, lits: &Lits) -> Result<Lits, NoMemory>
     requires near { i < 256 }
     requires below { AreBelow t.now.vars lits.now }
@@ -95,6 +99,7 @@ pub fn bounds_of_block(alloc: Global, t: &Template, set: &Bounds, i: u32) -> Res
 }
 
 // The literals of the candidates that stand in the set, in the candidates' order.
+/// The literals of a set's bounds.
 fn bound_literals(alloc: Global, t: &Template, set: &Bounds) -> Result<Lits, NoMemory>
     ensures value { IfOk result (λ ls. ls ≡ lits_of t.now.bounds set.now) }
     ensures below { IfOk result (AreBelow t.now.vars) }
@@ -108,6 +113,7 @@ fn bound_literals(alloc: Global, t: &Template, set: &Bounds) -> Result<Lits, NoM
     Ok(made)
 }
 
+/// Whether a set has a bound.
 fn is_among(bound: &Bound, set: &Bounds) -> bool
     ensures { result ≡ has_bound set.now bound.now }
 {

@@ -29,6 +29,7 @@ pub fn shift(alloc: Global, t: &Template, i: u32) -> Result<Block, NoMemory>
     Ok(Block { index: i, clauses })
 }
 
+/// A clause with all its variables moved up by this many.
 fn moved_clause(alloc: Global, clause: &Clause, by: u64) -> Result<Clause, NoMemory>
     requires below { AreBelow (2 ^ 48) clause.now }
     requires near { by < 2 ^ 56 }

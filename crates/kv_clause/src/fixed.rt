@@ -61,6 +61,7 @@ pub fn vars_of_blocks(t: &Template, k: u32) -> u64
 }
 
 // The start or head clauses, as the query begins.
+/// The clauses of a query's beginning.
 fn beginning(alloc: Global, t: &Template, q: &Query) -> Result<Clauses, NoMemory>
     ensures { IfOk result (λ cs. cs ≡ beginning_of t.now q.now) }
 {
@@ -71,6 +72,7 @@ fn beginning(alloc: Global, t: &Template, q: &Query) -> Result<Clauses, NoMemory
 }
 
 // Puts the clauses of the first k blocks at the end.
+/// Appends the clauses of k blocks.
 fn append_blocks<B: Blocks>(
     alloc: Global,
     blocks: &mut B,
@@ -93,6 +95,7 @@ fn append_blocks<B: Blocks>(
 }
 
 // What the query says beyond its beginning and its blocks.
+/// What a query asks besides its blocks, as clauses.
 fn further(alloc: Global, t: &Template, q: &Query) -> Result<Clauses, NoMemory>
     ensures { IfOk result (λ cs. cs ≡ further_of t.now q.now) }
 {
@@ -108,6 +111,7 @@ fn further(alloc: Global, t: &Template, q: &Query) -> Result<Clauses, NoMemory>
 }
 
 // Block 0 arrives, and some bound of the set is false at the arrival.
+/// The clauses that say that a block leaves a set of bounds.
 fn leaving(alloc: Global, t: &Template, set: &Bounds) -> Result<Clauses, NoMemory>
     ensures { IfOk result (λ cs. cs ≡ leaves_set t.now set.now) }
 {
@@ -117,6 +121,7 @@ fn leaving(alloc: Global, t: &Template, set: &Bounds) -> Result<Clauses, NoMemor
     Ok(made)
 }
 
+/// The clause of these literals' complements.
 fn complements(alloc: Global, lits: &Lits) -> Result<Clause, NoMemory>
     ensures { IfOk result (λ c. c ≡ map complement_of lits.now) }
 {
@@ -128,6 +133,7 @@ fn complements(alloc: Global, lits: &Lits) -> Result<Clause, NoMemory>
 }
 
 // Each literal as a clause of its own.
+/// A clause for each literal.
 fn units_of(alloc: Global, lits: &Lits) -> Result<Clauses, NoMemory>
     ensures { IfOk result (λ cs. cs ≡ units lits.now) }
 {

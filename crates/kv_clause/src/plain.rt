@@ -35,6 +35,7 @@ impl PlainBlocks {
     }
 
     // Makes the blocks up to the one at i.
+    /// Makes the blocks up to this one, if they aren't made yet.
     fn fill(&mut self, i: u32) -> Result<(), NoMemory>
         requires { i < self.old.blocks }
         ensures template { self.new.template ≡ self.old.template }

@@ -22,7 +22,8 @@ pub enum IntType {
 }
 
 /// The result of an operation: its value, wrapped into the type's range, and whether the exact result
-/// fits, which for a signed type means that there was no overflow.
+/// fits, which for a signed type means that there was no overflow. A negative number shifted to the left
+/// never fits, even if the product is in range, as -1 by 1 (6.5.7).
 #[derive(Clone, Copy, Debug, PartialEq, Eq)]
 pub struct Num {
     pub value: i128,

@@ -48,6 +48,7 @@ impl Counts {
     ghost use Rattle.kv_port.specs.Calls.{counted, number_of};
 
     // Counts a call, and gives its number.
+    /// Counts one more call of a kind, and gives its number, from 1.
     fn count(&mut self, call: Call) -> u32
         ensures counts { self.new ≡ counted self.old call }
         ensures number { result ≡ number_of self.new call }
@@ -77,6 +78,7 @@ impl Calls {
     ghost use Rattle.kv_port.specs.Calls.{counted, number_of};
 
     // No call yet.
+    /// No call yet; these are to fail.
     pub(crate) fn new(failing: Failures) -> Calls
         ensures { result ≡ record { counts = record { opens = 0; reads = 0; creates = 0; writes = 0 }; failing = failing } }
     {
@@ -90,6 +92,7 @@ impl Calls {
     }
 
     // Counts a call, and says whether it is one of those that fail.
+    /// Counts a call, and says whether it is one that is to fail.
     pub(crate) fn fails(&mut self, call: Call) -> bool
         ensures fails { IsTrue result ↔ Contains self.old.failing (record { call = call; number = number_of self.new.counts call }) }
         ensures counts { self.new.counts ≡ counted self.old.counts call }

@@ -76,6 +76,7 @@ impl MemFiles {
     }
 
     // A folder in which nothing was done.
+    /// Files in memory of which none is open or created.
     fn holding(
         alloc: Global,
         files: NamedFiles,

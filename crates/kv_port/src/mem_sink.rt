@@ -65,6 +65,7 @@ impl MemSink {
     }
 
     // How many of the given number of bytes there is room for.
+    /// How many of this many bytes the sink takes.
     fn taken(&self, wanted: usize) -> usize
         ensures { MatchOption self.now.limit (result ≡ wanted) (λ n. result ≡ min wanted (n - length self.now.held.items)) }
     {

@@ -32,6 +32,7 @@ pub(crate) struct Place {
 }
 
 // The index of the first file of a name.
+/// The number of the first file of a name.
 fn find(files: &[NamedFile], name: &[u8]) -> Option<usize>
     ensures place { MatchOption result (HasNone name.now files.now) (λ at. IsFirst name.now files.now at) }
     ensures inside { IfSome result (λ at. at < length files.now) }
@@ -45,6 +46,7 @@ fn find(files: &[NamedFile], name: &[u8]) -> Option<usize>
 }
 
 // What the file of a name holds.
+/// The bytes of the file of a name.
 pub(crate) fn content<'a>(files: &'a [NamedFile], name: &[u8]) -> Option<&'a [u8]>
     ensures { MatchOption result (get (folder_of files.now) name.now ≡ None)
         (λ bytes. get (folder_of files.now) name.now ≡ Some bytes.now) }
@@ -56,6 +58,7 @@ pub(crate) fn content<'a>(files: &'a [NamedFile], name: &[u8]) -> Option<&'a [u8
 }
 
 // Where the reading of the file of a name begins.
+/// The place at the beginning of the file of a name.
 pub(crate) fn begin(files: &[NamedFile], name: &[u8]) -> Option<Place>
     ensures place { MatchOption result (get (folder_of files.now) name.now ≡ None)
         (λ place. (left_of files.now (Some place) ≡ get (folder_of files.now) name.now) × IsSome (left_of files.now (Some place))) }
@@ -68,6 +71,7 @@ pub(crate) fn begin(files: &[NamedFile], name: &[u8]) -> Option<Place>
 }
 
 // Reads on from a place: at most a given number of bytes, and one or more unless the file ends there.
+/// Reads from a place on, at most this many bytes.
 pub(crate) fn read_on(files: &[NamedFile], place: &mut Place, most: usize, buf: &mut [u8]) -> usize
     requires there { place.old.file < length files.now }
     requires some { 0 < most }
@@ -87,6 +91,7 @@ pub(crate) fn read_on(files: &[NamedFile], place: &mut Place, most: usize, buf: 
 }
 
 // Puts an empty file of a name into the folder.
+/// Puts an empty file of a name into the list, in place of one that is there.
 fn put_empty(alloc: Global, files: &mut Vec<NamedFile>, name: Bytes) -> Result<(), NoMemory>
     ensures ok { OnOk result (folder_of files.new.items ≡ insert (folder_of files.old.items) name []) }
     ensures err { OnErr result (files.new.items ≡ files.old.items) }
@@ -112,6 +117,7 @@ fn put_empty(alloc: Global, files: &mut Vec<NamedFile>, name: Bytes) -> Result<(
 }
 
 // Puts an empty file of a name into the folder, and gives the name to keep.
+/// Creates an empty file, and gives its name back.
 pub(crate) fn create(
     alloc: Global,
     files: &mut Vec<NamedFile>,
@@ -129,6 +135,7 @@ pub(crate) fn create(
 }
 
 // Appends bytes to the file of a name. False: the file isn't there, or memory ran out.
+/// Appends bytes to the file of a name, and says whether memory was there.
 pub(crate) fn append(files: &mut Vec<NamedFile>, name: &[u8], bytes: &[u8]) -> bool
     ensures ok { result ≡ true → AppendsTo (folder_of files.old.items) name.now bytes.now (folder_of files.new.items) }
     ensures err { result ≡ false → files.new.items ≡ files.old.items }

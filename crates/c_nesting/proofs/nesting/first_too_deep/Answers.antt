@@ -8,8 +8,8 @@ use Rattle.c_nesting.proofs.nesting.first_too_deep.Goals as goal
 pub loop-i-init : goal.loop-i-init
 loop-i-init c = begins (kinds_of c.args.tokens.now) c.new.result c.new.ensures
 
-pub returns-then-counts-gt-LIMIT : goal.returns-then-counts-gt-LIMIT
-returns-then-counts-gt-LIMIT c =
+pub returns-then-counts-gt-MAX_NESTING : goal.returns-then-counts-gt-MAX_NESTING
+returns-then-counts-gt-MAX_NESTING c =
     let here = slice_get-get_or c.args.tokens.now c.loop-i.i c.index-tokens-i.result (omega arith) in
     let later = counts_go_on c.args.tokens.now c.loop-i.i _ _ _ _ here c.kind_at.ensures c.loop-i.invariant.1 c.in_ok-take.ensures.counts in
     let depth = c.in_ok-take.ensures.exact ∙ ap measure later in

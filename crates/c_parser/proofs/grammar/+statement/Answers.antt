@@ -8,4 +8,4 @@ pub any_statement-returns-then-depth-eq0 : goal.any_statement-returns-then-depth
 any_statement-returns-then-depth-eq0 t c = refuses _ _ _ _ c.refuse.ensures (statement_none (kinds_of c.args.tokens.now) c.args.depth c.args.place.now (omega arith))
 
 pub any_statement-returns : goal.any_statement-returns
-any_statement-returns t c = rw (statement_deeper (kinds_of c.args.tokens.now) c.args.depth c.args.place.now (omega arith)) c.statement.ensures
+any_statement-returns t c = rw (statement_deeper (kinds_of c.args.tokens.now) c.args.depth c.args.place.now (omega arith)) c.statement_over.ensures

@@ -1,6 +1,6 @@
 use Rattle.std.proofs.Common.{rules, ◌≡◌, suc}
-use Rattle.c_model.specs.Machine.{step, Next}
-use Rattle.c_model.proofs.Measure.{step_falls}
+use Rattle.c_straight_model.specs.Machine.{step, Next}
+use Rattle.c_straight_model.proofs.Measure.{step_falls}
 use Rattle.c_replay.specs.RunEnd.{answer_of}
 use Rattle.c_replay.proofs.Turns.{turns, stops}
 use Rattle.c_replay.proofs.run.replay.Goals as goal

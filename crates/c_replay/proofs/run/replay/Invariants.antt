@@ -1,6 +1,6 @@
 use Rattle.std.proofs.Common.{◌≡◌, ℕ}
-use Rattle.c_model.specs.Machine.{Answer, after, Comes}
-use Rattle.c_model.proofs.Measure.{steps_left}
+use Rattle.c_straight_model.specs.Machine.{Answer, after, Comes}
+use Rattle.c_straight_model.proofs.Measure.{steps_left}
 use Rattle.c_replay.proofs.run.replay.Given as goal
 
 -- what comes from here comes from the start

@@ -5,4 +5,4 @@ use Rattle.c_straight.proofs.program.body.Given as goal
 
 -- the items so far stand before those to come
 abbrev pub invariant-items : goal.invariant-items
-invariant-items l = body_of l.reader.tokens.now l.reader.depth l.items ≡ prefixed l.found (body_of l.reader.tokens.now l.reader.depth (drop l.at l.items))
+invariant-items l = body_of l.reader.lines.now l.reader.depth l.items ≡ prefixed l.found (body_of l.reader.lines.now l.reader.depth (drop l.at l.items))

@@ -1,4 +1,4 @@
-use Rattle.c_model.proofs.Executions.{safe_from_end}
+use Rattle.c_straight_model.proofs.Executions.{safe_from_end}
 use Rattle.esbmc_cli.proofs.decide.decide_bytes.Goals as goal
 
 pub returns-in-Ok-Ended : goal.returns-in-Ok-Ended

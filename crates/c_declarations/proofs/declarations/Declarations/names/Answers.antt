@@ -1,6 +1,6 @@
 use Rattle.std.proofs.Common.{rules, arith}
 use Rattle.c_tree.specs.SpellsText.{kinds_of}
-use Rattle.c_grammar.specs.Reader.{Refuses}
+use Rattle.c_grammar.specs.ReadExpressions.{Refuses}
 use Rattle.c_grammar.specs.Readers.{declarator}
 use Rattle.c_grammar.specs.ReadTypes.{separated}
 use Rattle.c_grammar.specs.ReadStatements.{initialiser, declared}

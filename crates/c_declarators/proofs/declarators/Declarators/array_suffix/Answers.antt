@@ -1,7 +1,7 @@
 use Rattle.std.proofs.Common.{◌≡◌, ◌∙◌, rules}
 use Rattle.c_tree.specs.SpellsText.{kinds_of}
 use Rattle.c_tree.specs.declared.expression.Declarator.TheVariants as declarator_node
-use Rattle.c_grammar.specs.Reader.{Gives}
+use Rattle.c_grammar.specs.ReadExpressions.{Gives}
 use Rattle.c_grammar.specs.ReadTypes.{Titles}
 use Rattle.c_declarators.specs.Declarators.{array_suffix}
 use Rattle.c_declarators.specs.TypeNames.{closed_size}

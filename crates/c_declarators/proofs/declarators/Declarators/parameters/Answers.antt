@@ -12,5 +12,5 @@ returns-in_default g c =
 pub returns-in-Ellipsis : goal.returns-in-Ellipsis
 returns-in-Ellipsis g c =
     let kinds = kinds_of c.args.self.now.tokens.now in
-    parameters_variadic kinds c.args.self.now.depth c.args.self.now.depth c.loop-turn._turn _ _ _ _ _ _ _ _ c.loop-turn.invariant (omega arith) c.in_ok-parameter.ensures (search rules)
-    (sym c.in-Comma.ensures.value) c.skip.ensures (sym c.in-Ellipsis.ensures.value) c.skip-in-Ellipsis.ensures
+    parameters_variadic kinds c.args.self.now.depth c.args.self.now.depth c.loop-turn._turn _ _ _ _ _ _ _ _ _ c.loop-turn.invariant (omega arith) c.in_ok-parameter.ensures (search rules)
+    (sym c.in-Comma.ensures.value) c.skip.ensures (sym c.in-Ellipsis.ensures.value) c.at-at.ensures c.skip-in-Ellipsis.ensures

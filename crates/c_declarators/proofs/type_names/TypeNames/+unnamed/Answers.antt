@@ -1,6 +1,6 @@
 use Rattle.std.proofs.Common.{◌≡◌, ◌-◌, sym, ◌∙◌, arith, rules}
 use Rattle.c_tree.specs.SpellsText.{kinds_of}
-use Rattle.c_grammar.specs.Reader.{Refuses}
+use Rattle.c_grammar.specs.ReadExpressions.{Refuses}
 use Rattle.c_grammar.specs.ReadTypes.{qualifiers, unnamed}
 use Rattle.c_grammar.specs.Readers.{read}
 use Rattle.c_declarators.proofs.Unnamed.{unnamed_none, unnamed_arrays, unnamed_unread, unnamed_unqualified, unnamed_refused, unnamed_pointer}

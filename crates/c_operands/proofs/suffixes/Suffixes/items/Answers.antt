@@ -1,6 +1,6 @@
 use Rattle.std.proofs.Common.{◌≡◌, ◌∙◌, sym, arith, rules}
 use Rattle.c_tree.specs.SpellsText.{kinds_of}
-use Rattle.c_grammar.specs.Reader.{Refuses, items}
+use Rattle.c_grammar.specs.ReadExpressions.{Refuses, items}
 use Rattle.c_grammar.specs.Readers.{read}
 use Rattle.c_operands.proofs.Gathered.{items_begins, items_refused, items_none, items_last, items_next}
 use Rattle.c_operands.proofs.suffixes.Suffixes.items.Goals as goal

@@ -1,6 +1,6 @@
 use Rattle.std.proofs.Common.{◌≡◌, ◌-◌}
 use Rattle.c_tree.specs.SpellsText.{kinds_of}
-use Rattle.c_grammar.specs.Reader.{items}
+use Rattle.c_grammar.specs.ReadExpressions.{items}
 use Rattle.c_grammar.specs.Readers.{read}
 use Rattle.c_cursor.proofs.Lists.{after}
 use Rattle.c_operands.proofs.suffixes.Suffixes.items.Given as goal

@@ -1,6 +1,6 @@
 use Rattle.std.proofs.Common.{◌≡◌, ◌-◌, ◌∙◌, arith, rules}
 use Rattle.c_tree.specs.SpellsText.{kinds_of}
-use Rattle.c_grammar.specs.Reader.{Refuses}
+use Rattle.c_grammar.specs.ReadExpressions.{Refuses}
 use Rattle.c_grammar.specs.Readers.{more}
 use Rattle.c_operands.specs.Suffixed.{suffixed}
 use Rattle.c_operands.proofs.Gathered.{more_stops, more_none, more_goes, more_refused}

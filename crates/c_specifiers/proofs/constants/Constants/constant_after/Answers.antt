@@ -1,7 +1,7 @@
 use Rattle.std.proofs.Common.{◌∙◌, sym, ap}
 use Rattle.c_tree.specs.SpellsText.{kinds_of}
 use Rattle.c_tree.specs.declared.expression.EnumConstant.TheVariants as constant_node
-use Rattle.c_grammar.specs.Reader.{Gives}
+use Rattle.c_grammar.specs.ReadExpressions.{Gives}
 use Rattle.c_specifiers.proofs.ConstantSteps.{constant_next}
 use Rattle.c_specifiers.proofs.constants.Constants.constant_after.Goals as goal
 

@@ -1,6 +1,6 @@
 use Rattle.std.proofs.Common.{◌≡◌, ◌∙◌, sym, arith, rules}
 use Rattle.c_tree.specs.SpellsText.{kinds_of}
-use Rattle.c_grammar.specs.Reader.{Refuses}
+use Rattle.c_grammar.specs.ReadExpressions.{Refuses}
 use Rattle.c_specifiers.specs.Members.{constant_at}
 use Rattle.c_cursor.specs.Parts.{constants_at}
 use Rattle.c_cursor.proofs.Listed.{listed_refused, listed_none, listed_last, listed_comma_last, listed_next}

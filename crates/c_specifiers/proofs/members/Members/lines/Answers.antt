@@ -1,7 +1,7 @@
 use Rattle.std.proofs.Common.{◌≡◌, ◌∙◌, sym, arith, rules}
 use Rattle.c_tree.specs.SpellsText.{kinds_of}
-use Rattle.c_grammar.specs.Reader.{Refuses}
-use Rattle.c_specifiers.specs.Members.{line_at}
+use Rattle.c_grammar.specs.ReadExpressions.{Refuses}
+use Rattle.c_specifiers.specs.Members.{member_line}
 use Rattle.c_cursor.specs.Parts.{lines_at}
 use Rattle.c_specifiers.proofs.Lines.{lines_end, lines_refused, lines_next, lines_none}
 use Rattle.c_specifiers.proofs.members.Members.lines.Goals as goal
@@ -16,7 +16,7 @@ pub returns-in_err-line : goal.returns-in_err-line
 returns-in_err-line g c =
     let kinds = kinds_of c.args.self.now.tokens.now in
     let n = c.args.self.now.depth in
-    let refuses : line_at kinds n c.loop-turn.place ≡ Refuses → lines_at kinds n c.args.place.now ≡ Refuses =
+    let refuses : member_line kinds n c.loop-turn.place ≡ Refuses → lines_at kinds n c.args.place.now ≡ Refuses =
     λ h. c.loop-turn.invariant ∙ lines_refused kinds n n c.loop-turn._turn _ _ (omega arith) (λ e. c.in_default.not-CurlyCloses (c.mark_at.ensures.value ∙ e)) h in
     first_of (search (rules, refuses), grind (arith, refuses))
 

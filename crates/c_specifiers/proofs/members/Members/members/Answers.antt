@@ -1,6 +1,6 @@
 use Rattle.std.proofs.Common.{◌≡◌, ◌∙◌, sym, arith, rules}
 use Rattle.c_tree.specs.SpellsText.{kinds_of}
-use Rattle.c_grammar.specs.Reader.{Refuses}
+use Rattle.c_grammar.specs.ReadExpressions.{Refuses}
 use Rattle.c_specifiers.specs.Members.{member_at, members_at}
 use Rattle.c_cursor.proofs.Listed.{separated_refused, separated_none, separated_last, separated_next}
 use Rattle.c_specifiers.proofs.members.Members.members.Goals as goal

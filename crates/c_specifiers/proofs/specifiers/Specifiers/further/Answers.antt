@@ -1,6 +1,6 @@
 use Rattle.std.proofs.Common.{◌≡◌, ◌-◌, true, false, ◌∙◌, sym, arith, rules}
 use Rattle.c_tree.specs.SpellsText.{kinds_of}
-use Rattle.c_grammar.specs.Reader.{Refuses}
+use Rattle.c_grammar.specs.ReadExpressions.{Refuses}
 use Rattle.c_specifiers.specs.Specifiers.{decorated_specifier, further_at}
 use Rattle.c_specifiers.proofs.SpecifierSteps.{further_refused, further_none, further_last, further_next}
 use Rattle.c_specifiers.proofs.specifiers.Specifiers.further.Goals as goal

@@ -1,6 +1,6 @@
 use Rattle.std.proofs.Common.{◌∙◌, sym, ap}
 use Rattle.c_tree.specs.SpellsText.{kinds_of}
-use Rattle.c_grammar.specs.Reader.{Gives}
+use Rattle.c_grammar.specs.ReadExpressions.{Gives}
 use Rattle.c_specifiers.proofs.SpecifierSteps.{struct_tag_alone}
 use Rattle.c_specifiers.proofs.specifiers.Specifiers.struct_tagged.Goals as goal
 

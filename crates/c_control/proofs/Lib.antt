@@ -1,0 +1,3 @@
+pub mod ChainSteps
+pub mod Leaving
+pub mod Starts

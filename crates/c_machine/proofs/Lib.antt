@@ -1,3 +1,0 @@
-pub mod Executions
-pub mod Goals
-pub mod BlockEnds

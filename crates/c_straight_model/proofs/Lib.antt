@@ -1,0 +1,3 @@
+pub mod Executions
+pub mod Measure
+pub mod Ready
