@@ -31,6 +31,8 @@ worked_constants = record {
 pub worked_sizes : WorkedSizes
 worked_sizes = record {
   array_of_pointers = refl;
+  size_of_64_bits = refl;
+  size_of_32_bits = refl;
   with_pointers_of_32_bits = refl;
   of_a_struct = refl;
   of_void = refl;
@@ -88,6 +90,8 @@ worked_assignments = record {
   pointer_as_bool = refl;
   struct_as_void = refl;
   void_as_int = refl;
+  void_as_struct = refl;
+  int_as_struct = refl;
 }
 
 pub worked_addresses : WorkedAddresses

@@ -15,7 +15,7 @@ use Rattle.c_kinds.specs.declared.typed.Fixed.{Fixed}
 use Rattle.c_kinds.specs.declared.typed.Fixed.TheVariants as constant
 use Rattle.c_kinds.specs.declared.typed.Typed.{Typed}
 use Rattle.c_kinds.specs.Types.{integer, void, pointer_to, derived_from, plain, const_of, also_const, alike, same}
-use Rattle.c_kinds.specs.Integers.{promoted, usual, converted}
+use Rattle.c_kinds.specs.Integers.{promoted, usual, converted, size_type}
 use Rattle.c_kinds.specs.Layouts.{Layout, size_in_bytes, cell_count, cell_types, is_incomplete}
 use Rattle.c_kinds.specs.Constants.{binary_value, chosen_integer, chosen_pointer}
 use Rattle.c_kinds.specs.declared.answer.Answer.{Answer}
@@ -99,6 +99,8 @@ some_layout = record {
 pub record WorkedSizes : Type 0 where
   -- `int *a[3]`
   pub array_of_pointers : size_in_bytes Lp64 (array_of 3 (pointer_to int)) ≡ Some 24
+  pub size_of_64_bits : size_type Lp64 ≡ ULong
+  pub size_of_32_bits : size_type Ilp32 ≡ UInt
   pub with_pointers_of_32_bits : size_in_bytes Ilp32 (array_of 3 (pointer_to int)) ≡ Some 12
   pub of_a_struct : size_in_bytes Lp64 (array_of 3 (struct_type 0)) ≡ None
   pub of_void : size_in_bytes Lp64 void ≡ None
@@ -182,6 +184,8 @@ pub record WorkedAssignments : Type 0 where
   pub pointer_as_bool : cast_answer 20 None (integer B) (result (pointer_to int) constant.Varies 22 22) ≡ Gives (result (integer B) constant.Varies 20 22)
   pub struct_as_void : cast_answer 20 None void (result (struct_type 0) constant.Varies 22 22) ≡ Breaks 15 20
   pub void_as_int : cast_answer 20 None int (result void constant.Varies 22 22) ≡ Breaks 12 20
+  pub void_as_struct : cast_answer 20 None (struct_type 0) (result void constant.Varies 22 22) ≡ Breaks 12 20
+  pub int_as_struct : cast_answer 20 None (struct_type 0) (number 1 22) ≡ Breaks 15 20
 
 -- the static object t is `struct {int a; char b[2];} t[1]`, and m is `int m[2][3]`
 abbrev pub static_t : Typed

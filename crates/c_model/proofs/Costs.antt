@@ -51,36 +51,36 @@ module _ (p : Program) where
   unfolding expression_cost
   of_expression_is x = expression_is (costing p) x ∙ node_same (out-Expression x)
 
-  same_initialiser : (l : Initialiser-F Initialiser) → initialiser_node p (λ w. w) (map-Initialiser Initialiser Cost (initialiser_cost p) l) ≡ initialiser_node p (initialiser_cost p) l
+  pub same_initialiser : (l : Initialiser-F Initialiser) → initialiser_node p (λ w. w) (map-Initialiser Initialiser Cost (initialiser_cost p) l) ≡ initialiser_node p (initialiser_cost p) l
   same_initialiser (i.Value value at) = refl
   same_initialiser (i.Braces parts at) = ap (λ n. more 2 n) (costs_mapped (λ w. w) (initialiser_cost p) parts)
 
-  rolled_initialiser : (l : Initialiser-F Initialiser) → initialiser_cost p (roll-Initialiser l) ≡ initialiser_node p (λ w. w) (map-Initialiser Initialiser Cost (initialiser_cost p) l)
+  pub rolled_initialiser : (l : Initialiser-F Initialiser) → initialiser_cost p (roll-Initialiser l) ≡ initialiser_node p (λ w. w) (map-Initialiser Initialiser Cost (initialiser_cost p) l)
   unfolding initialiser_cost
   rolled_initialiser l = fold-roll-Initialiser Cost (initialiser_node p (λ w. w)) l
 
   pub of_initialiser_is : (x : Initialiser) → initialiser_cost p x ≡ initialiser_node p (initialiser_cost p) (out-Initialiser x)
   of_initialiser_is x = ap (initialiser_cost p) (sym (roll-out-Initialiser x)) ∙ (rolled_initialiser (out-Initialiser x) ∙ same_initialiser (out-Initialiser x))
 
-  rolled_item : (l : ItemNode) → item_size p (roll-BlockItem l) ≡ item_node p (λ w. w) (map-BlockItem BlockItem Statement Branch Size Size Cost (item_size p) (statement_size p) (branch_size p) l)
+  pub rolled_item : (l : ItemNode) → item_size p (roll-BlockItem l) ≡ item_node p (λ w. w) (map-BlockItem BlockItem Statement Branch Size Size Cost (item_size p) (statement_size p) (branch_size p) l)
   unfolding item_size statement_size branch_size
   rolled_item l = fold-roll-BlockItem Size Size Cost (item_node p (λ w. w)) (statement_node p (λ w. w) (λ w. w) (λ w. w)) (branch_node p (λ w. w)) l
 
-  rolled_statement : (l : StatementNode) → statement_size p (roll-Statement l) ≡ statement_node p (λ w. w) (λ w. w) (λ w. w) (map-Statement BlockItem Statement Branch Size Size Cost (item_size p) (statement_size p) (branch_size p) l)
+  pub rolled_statement : (l : StatementNode) → statement_size p (roll-Statement l) ≡ statement_node p (λ w. w) (λ w. w) (λ w. w) (map-Statement BlockItem Statement Branch Size Size Cost (item_size p) (statement_size p) (branch_size p) l)
   unfolding item_size statement_size branch_size
   rolled_statement l = fold-roll-Statement Size Size Cost (item_node p (λ w. w)) (statement_node p (λ w. w) (λ w. w) (λ w. w)) (branch_node p (λ w. w)) l
 
-  rolled_branch : (l : Branch-F BlockItem Statement Branch) → branch_size p (roll-Branch l) ≡ branch_node p (λ w. w) (map-Branch BlockItem Statement Branch Size Size Cost (item_size p) (statement_size p) (branch_size p) l)
+  pub rolled_branch : (l : Branch-F BlockItem Statement Branch) → branch_size p (roll-Branch l) ≡ branch_node p (λ w. w) (map-Branch BlockItem Statement Branch Size Size Cost (item_size p) (statement_size p) (branch_size p) l)
   unfolding item_size statement_size branch_size
   rolled_branch l = fold-roll-Branch Size Size Cost (item_node p (λ w. w)) (statement_node p (λ w. w) (λ w. w) (λ w. w)) (branch_node p (λ w. w)) l
 
-  same_statement : (l : StatementNode) → statement_node p (λ w. w) (λ w. w) (λ w. w) (map-Statement BlockItem Statement Branch Size Size Cost (item_size p) (statement_size p) (branch_size p) l) ≡ statement_node p (item_size p) (statement_size p) (branch_size p) l
+  pub same_statement : (l : StatementNode) → statement_node p (λ w. w) (λ w. w) (λ w. w) (map-Statement BlockItem Statement Branch Size Size Cost (item_size p) (statement_size p) (branch_size p) l) ≡ statement_node p (item_size p) (statement_size p) (branch_size p) l
   same_statement (t.Block items at) = ap (λ r. unlabelled (more 4 (Both r (search_cost (λ w. w) (map (item_size p) items))))) (costs_mapped (λ w. w.cost) (item_size p) items) ∙ ap (λ n. unlabelled (more 4 (Both (rest_cost (item_size p) items) n))) (search_mapped (item_size p) items)
   same_statement (t.If branches) = ap (λ n. unlabelled (more 1 n)) (branches_mapped (statement_size p) (branch_size p) branches None None refl)
   same_statement (t.IfElse branches otherwise) = ap (λ n. unlabelled (more 1 n)) (branches_mapped (statement_size p) (branch_size p) branches (Some otherwise) (Some (statement_size p otherwise)) refl)
   same_statement _ = refl
 
-  same_item : (l : ItemNode) → item_node p (λ w. w) (map-BlockItem BlockItem Statement Branch Size Size Cost (item_size p) (statement_size p) (branch_size p) l) ≡ item_node p (statement_size p) l
+  pub same_item : (l : ItemNode) → item_node p (λ w. w) (map-BlockItem BlockItem Statement Branch Size Size Cost (item_size p) (statement_size p) (branch_size p) l) ≡ item_node p (statement_size p) l
   same_item (b.Declared declaration) = refl
   same_item (b.Run statement) = refl
 

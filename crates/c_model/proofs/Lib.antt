@@ -3,6 +3,8 @@ pub mod Executions
 pub mod Goals
 pub mod BlockEnds
 pub mod Costs
+pub mod Calls
+pub mod Accepted
 pub mod Measure
 pub mod Falls
 pub mod StatementFalls

@@ -4,6 +4,8 @@ use Rattle.c_rules.specs.declared.checks.CheckKind.{CheckKind}
 use Rattle.c_rules.specs.declared.checks.Goal.{Goal}
 use Rattle.c_rules.specs.declared.checks.Goal.TheVariants.{All, Only}
 use Rattle.c_rules.specs.declared.program.Program.{Program}
+use Rattle.c_rules.specs.Accepted.{IsAcceptedProgram}
+use Rattle.c_rules.specs.Told.{Tell}
 use Rattle.c_model.specs.Configurations.{Configuration, Answer, NeedsInput}
 use Rattle.c_model.specs.Executions.{IsEnd, Comes, Breaks, start_on}
 use Rattle.c_model.specs.Costs.{CallsEnd}
@@ -34,7 +36,14 @@ BlockHasOneEnd = (p : Program) (c : Configuration) (a b : BlockEnd) → Block p 
 abbrev pub ArrivalsAreBare : Type 0
 ArrivalsAreBare = (p : Program) (inputs : List ℕ) (n : ℕ) (c : Configuration) → Reaches p (suc n) (start_on p inputs) c → IsBareArrival p c.state
 
--- no block is endless: from every configuration it ends after some number of steps, in an arrival, an end or a break, where no
--- call leads back to its own function
+-- no block is endless: from every configuration it ends after some number of steps, in an arrival, an end or a break
+abbrev pub EachBlockEnds : Program → Type 0
+EachBlockEnds p = (c : Configuration) → (end : BlockEnd) × Block p c end
+
+-- so it is in accepted programs, where no name stands for what a broken rule left without a type
 abbrev pub NoBlockIsEndless : Type 0
-NoBlockIsEndless = (p : Program) → CallsEnd p → (c : Configuration) → (end : BlockEnd) × Block p c end
+NoBlockIsEndless = (p : Program) → Tell p.names → IsAcceptedProgram p → EachBlockEnds p
+
+-- and in others, where no call leads back to its own function
+abbrev pub EndsWhereCallsEnd : Type 0
+EndsWhereCallsEnd = (p : Program) → CallsEnd p → EachBlockEnds p

@@ -1,6 +1,6 @@
 //! Laws of the definitions. Each function computes nothing: its contract is the law.
 
-ghost use Rattle.c_model.specs.Laws.{ArrivalsAreBare, BlockHasOneEnd, EndsAlike, GoalsAgree, HasOneEnd, NoBlockIsEndless};
+ghost use Rattle.c_model.specs.Laws.{ArrivalsAreBare, BlockHasOneEnd, EndsAlike, EndsWhereCallsEnd, GoalsAgree, HasOneEnd, NoBlockIsEndless};
 ghost use Rattle.c_model.specs.Worked.{WorkedArithmetic, WorkedAssertions, WorkedComparisons, WorkedConversions, WorkedObjects, WorkedOperands, WorkedPointers, WorkedShifts};
 
 /// An execution has at most one end.
@@ -28,9 +28,11 @@ pub fn arrivals_are_bare()
     ensures { ArrivalsAreBare }
 {}
 
-/// Each block ends, where no call leads back to its own function.
+/// Each block of an accepted program whose names have types ends, and so does each block of a program in which no call
+/// leads back to its own function.
 pub fn no_block_is_endless()
-    ensures { NoBlockIsEndless }
+    ensures accepted { NoBlockIsEndless }
+    ensures by_calls { EndsWhereCallsEnd }
 {}
 
 /// Worked examples of operators, conversions, pointers and checks, each with one that breaks and one that does not.

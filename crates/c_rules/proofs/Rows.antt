@@ -7,6 +7,7 @@ use Rattle.c_rules.proofs.Views.{name_of_function, name_is_called, text_is_text}
 pub worked_answers : WorkedAnswers
 worked_answers = record {
   assignment = simp (answer_is, tree.outs-Assign, tree.outs-Name, tree.outs-Constant);
+  assignment_of_rows = simp (answer_is, tree.outs-Assign, tree.outs-Name);
   undeclared = simp (answer_is, tree.outs-Name);
   undeclared_part = simp (answer_is, tree.outs-Binary, tree.outs-Name);
   undefined = simp (answer_is, tree.outs-Name);

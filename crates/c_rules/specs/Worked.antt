@@ -8,9 +8,10 @@ use Rattle.c_tree.specs.declared.expression.Expression.{Expression}
 use Rattle.c_tree.specs.declared.expression.Expression.TheVariants as tree
 use Rattle.c_kinds.specs.declared.types.Base.TheVariants as base
 use Rattle.c_kinds.specs.declared.types.CType.{CType}
+use Rattle.c_kinds.specs.declared.types.Derivation.TheVariants.{Array}
 use Rattle.c_kinds.specs.declared.types.Struct.{Struct}
 use Rattle.c_kinds.specs.declared.typed.Fixed.TheVariants as constant
-use Rattle.c_kinds.specs.Types.{integer, void, plain, pointer_to}
+use Rattle.c_kinds.specs.Types.{integer, void, plain, pointer_to, derived_from}
 use Rattle.c_kinds.specs.declared.answer.Answer.TheVariants.{Gives, Breaks, Nothing}
 use Rattle.c_kinds.specs.Values.{result}
 use Rattle.c_rules.specs.declared.names.KnownFunction.TheVariants as known
@@ -22,18 +23,22 @@ use Rattle.c_rules.specs.Typing.{Given, answer_of}
 abbrev pub int : CType
 int = integer Int
 
+-- an array of arrays
+abbrev pub rows : CType
+rows = derived_from (Array 2) (derived_from (Array 3) int)
+
 abbrev pub object : CType → Bool → Object
 object t is_defined = record { ctype = Some t; is_static = false; function = None; is_defined = is_defined; is_initialised = false }
 
 abbrev pub open_struct : Struct
 open_struct = record { members = []; completed_at = None; cells = 0; has_const = false }
 
--- int x; int *p; struct S *q, which isn't complete; extern int y, which nothing defines; int f(int) with a body
+-- int x; int *p; struct S *q, which isn't complete; extern int y, which nothing defines; int m[2][3]; int f(int) with a body
 abbrev pub some_names : List (Option Meaning) → Given
 some_names meanings = record {
   names = record {
     meanings = meanings;
-    objects = object int true ∷ object (pointer_to int) true ∷ object (pointer_to (plain (base.Struct 0))) true ∷ object int false ∷ [];
+    objects = object int true ∷ object (pointer_to int) true ∷ object (pointer_to (plain (base.Struct 0))) true ∷ object int false ∷ object rows true ∷ [];
     functions = record { signature = Some 0; known = None; is_defined = true; first = 0 } ∷ [];
     structs = open_struct ∷ [];
     signatures = record { result = int; parameters = int ∷ []; is_variadic = false } ∷ [];
@@ -65,6 +70,8 @@ fails_meant = Some (meaning.Known known.AssertFail)
 pub record WorkedAnswers : Type 0 where
   -- `x = 1`
   pub assignment : answer_of (means (the_object 0) None None) (tree.Assign assign.Plain (x_at 0) (number_at 1 2) 1) false ≡ Gives (result int constant.Varies 1 2)
+  -- `m = n` of two arrays of arrays: the rule is broken at `m`
+  pub assignment_of_rows : answer_of (means (the_object 4) None (the_object 4)) (tree.Assign assign.Plain (x_at 0) (x_at 2) 1) false ≡ Breaks 9 0
   -- `z`, which isn't declared, and `x + z`
   pub undeclared : answer_of (means None None None) (x_at 0) false ≡ Breaks 3 0
   pub undeclared_part : answer_of (means (the_object 0) None None) (tree.Binary binary.Add (x_at 0) (x_at 2) 1) false ≡ Nothing

@@ -134,6 +134,9 @@ pub record WorkedNames : Type 0 where
   pub known_of_another_type : broken (declared plainly (function_type 0) (codes "abort") with_types) ≡ pair 1 23 ∷ []
   pub known_function : broken (declared plainly (function_type 3) (codes "abort") with_types) ≡ []
   pub known_with_a_body : broken (declared with_body (function_type 3) (codes "abort") with_types) ≡ pair 1 23 ∷ []
+  -- `void exit(struct U *x){..}`, a definition whose type isn't known, and the same without a body
+  pub known_with_an_unknown_type : broken (declares_name with_body false 0 (record (defined (function_type 3) None (Some no_block)) { ctype = None; name = Some (codes "exit") })) ≡ pair 1 23 ∷ []
+  pub prototype_of_a_known : broken (declares_name plainly false 0 (record (defined (function_type 3) None (Some no_block)) { ctype = None; name = Some (codes "exit") })) ≡ []
   pub error_with_a_body : broken (declared with_body (function_type 3) (codes "reach_error") with_types) ≡ []
   -- `void x;`, `typedef int x = ..;`, `typedef int x;`
   pub void_object : broken (declared plainly void x_name nothing) ≡ pair 0 24 ∷ []
@@ -144,6 +147,9 @@ pub record WorkedNames : Type 0 where
   -- `int x[1/0]` with the `[` at token 2, `enum {A = 2147483648}` with the value at token 4
   pub size_without_a_value : broken (length_from 2 NoValue nothing).state ≡ pair 3 25 ∷ []
   pub constant_too_large : broken (counts (codes "A") 2 4 (Some (pos 2147483648)) nothing).state ≡ pair 4 25 ∷ []
+  -- `enum {abort}` in the file, and in a block
+  pub constant_of_a_known_name : broken (counts (codes "abort") 2 2 (Some (pos 0)) nothing).state ≡ pair 2 23 ∷ []
+  pub constant_in_a_block : broken (counts (codes "abort") 2 2 (Some (pos 0)) (enter nothing)).state ≡ []
   pub constant_of_an_enum : broken (counts (codes "A") 2 4 (Some (pos 2147483647)) nothing).state ≡ []
   -- `static int x = 1/0;`, `int x = 1/0;`, `int x = p;`, `int x[2] = 1;`
   pub static_without_a_value : initialised true int int ≡ pair 3 25 ∷ []

@@ -2,12 +2,14 @@ use crate::{
     bit_field, block_items, braces, branch, choice, declaration, declarator, declared, definition,
     element, enum_constant, member_line, parameter, seven, specifiers, structure, tree, type_name,
 };
+use c_text_copies::{
+    copy_block_item, copy_block_items, copy_branch, copy_declaration, copy_declared, copy_external,
+    copy_for_start, copy_initialiser, copy_statement, copy_tree,
+};
 use c_tree::{BlockItem, ForStart};
 use c_tree_copies::{
-    copy_block_item, copy_block_items, copy_branch, copy_declaration, copy_declarator,
-    copy_declared, copy_enum_constant, copy_expression, copy_external, copy_for_start,
-    copy_initialiser, copy_member, copy_member_line, copy_parameter, copy_specifier,
-    copy_specifiers, copy_statement, copy_tree, copy_type_name,
+    copy_declarator, copy_enum_constant, copy_expression, copy_member, copy_member_line,
+    copy_parameter, copy_specifier, copy_specifiers, copy_type_name,
 };
 use std::alloc::Global;
 use std::fmt::Debug;

@@ -1,5 +1,5 @@
 use Rattle.std.proofs.Common.{◌≡◌, take}
-use Rattle.c_tree_copies.proofs.tree.copy_externals.Given as goal
+use Rattle.c_text_copies.proofs.tree.copy_externals.Given as goal
 
 -- the elements so far are copied
 abbrev pub invariant-loop-external : goal.invariant-loop-external

@@ -3,8 +3,8 @@
 ghost use Rattle.std.specs.Prelude.{◌≡◌, IfOk};
 
 use crate::declaration::copy_declaration;
-use crate::expression::copy_expression;
 use c_tree::{BlockItem, Branch, Expression, ForStart, Statement};
+use c_tree_copies::copy_expression;
 use kv_base::{Bytes, Copied, NoMemory};
 use sqlite_items::{Boxed, Items};
 use std::alloc::Global;

@@ -1,5 +1,5 @@
 use Rattle.std.proofs.Common.{◌≡◌, take}
-use Rattle.c_tree_copies.proofs.declaration.+initialisers.Given as goal
+use Rattle.c_text_copies.proofs.declaration.+initialisers.Given as goal
 
 -- the elements so far are copied
 abbrev pub invariant-copy_initialisers-loop-item : goal.invariant-copy_initialisers-loop-item

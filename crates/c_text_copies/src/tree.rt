@@ -3,9 +3,9 @@
 ghost use Rattle.std.specs.Prelude.{◌≡◌, IfOk};
 
 use crate::declaration::copy_declaration;
-use crate::expression::{copy_declarator, copy_specifiers};
 use crate::statement::copy_block_items;
 use c_tree::{External, Externals, TokenLines, Tree};
+use c_tree_copies::{copy_declarator, copy_specifiers};
 use kv_base::NoMemory;
 use std::alloc::Global;
 

@@ -2,8 +2,8 @@
 
 ghost use Rattle.std.specs.Prelude.{◌≡◌, IfOk};
 
-use crate::expression::{copy_declarator, copy_expression, copy_specifiers};
 use c_tree::{Declaration, Declared, DeclaredNames, Initialiser};
+use c_tree_copies::{copy_declarator, copy_expression, copy_specifiers};
 use kv_base::NoMemory;
 use sqlite_items::Items;
 use std::alloc::Global;
