@@ -36,7 +36,6 @@ use Rattle.c_rules.specs.Initialisers.{name_at}
 use Rattle.c_rules.specs.Laws.{IsOfLowerRank}
 use Rattle.c_rules.specs.Recursion.{of_expression, of_specifier, of_declarator}
 use Rattle.c_rules.specs.Sequencing.{Done, DoneIn, done_all, full_expression, optional_expression, initialiser_done, done_in_initialiser, declared_done, declaration_done, start_done, item_done, statement_done, branch_done, done_in_item, function_meant, done_in_external, done_in_text}
-use Rattle.c_rules.specs.Told.{Tell}
 use Rattle.c_rules.specs.Texts.{names_of}
 use Rattle.c_rules.proofs.Calls.{calls_descend}
 use Rattle.c_rules.proofs.Texts.{text_clear}
@@ -330,9 +329,9 @@ module _ (p : Program) (h : ℕ) where
 given_same : (p : Program) → p.names ≡ names_of p.checks.model p.tree → given_of p.checks.model p.tree ≡ given_in p
 given_same p e = ap (λ names. record { names = names; model = p.checks.model }) (sym e)
 
-pub calls_end : (p : Program) → Tell p.names → IsAcceptedProgram p → CallsEnd p
-calls_end p told a =
+pub calls_end : (p : Program) → IsAcceptedProgram p → CallsEnd p
+calls_end p a =
     let ranks = calls_descend p.checks.model p.tree a.accepted in
-    let typed = subst (λ g. AllTyped (of_each (found_in_external (looking (answering g))) p.tree.externals)) (given_same p a.names) (text_clear p.checks.model p.tree (subst Tell a.names told) a.accepted) in
+    let typed = subst (λ g. AllTyped (of_each (found_in_external (looking (answering g))) p.tree.externals)) (given_same p a.names) (text_clear p.checks.model p.tree a.accepted) in
     let lower = subst (λ g. All (λ d. All (IsOfLowerRank ranks.0 d.function) d.done.asked.calls) (done_in_text g p.tree.externals)) (given_same p a.names) ranks.1 in
     record { rank = ranks.0; falls = λ f h i. ⊎_elim (λ j. body_falls p h ranks.0 f p.tree.externals typed lower j) (λ j. absurd (past j)) (among h _ i) }

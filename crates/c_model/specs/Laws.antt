@@ -5,7 +5,6 @@ use Rattle.c_rules.specs.declared.checks.Goal.{Goal}
 use Rattle.c_rules.specs.declared.checks.Goal.TheVariants.{All, Only}
 use Rattle.c_rules.specs.declared.program.Program.{Program}
 use Rattle.c_rules.specs.Accepted.{IsAcceptedProgram}
-use Rattle.c_rules.specs.Told.{Tell}
 use Rattle.c_model.specs.Configurations.{Configuration, Answer, NeedsInput}
 use Rattle.c_model.specs.Executions.{IsEnd, Comes, Breaks, start_on}
 use Rattle.c_model.specs.Costs.{CallsEnd}
@@ -40,9 +39,9 @@ ArrivalsAreBare = (p : Program) (inputs : List ℕ) (n : ℕ) (c : Configuration
 abbrev pub EachBlockEnds : Program → Type 0
 EachBlockEnds p = (c : Configuration) → (end : BlockEnd) × Block p c end
 
--- so it is in accepted programs, where no name stands for what a broken rule left without a type
+-- so it is in accepted programs
 abbrev pub NoBlockIsEndless : Type 0
-NoBlockIsEndless = (p : Program) → Tell p.names → IsAcceptedProgram p → EachBlockEnds p
+NoBlockIsEndless = (p : Program) → IsAcceptedProgram p → EachBlockEnds p
 
 -- and in others, where no call leads back to its own function
 abbrev pub EndsWhereCallsEnd : Type 0

@@ -28,8 +28,8 @@ pub fn arrivals_are_bare()
     ensures { ArrivalsAreBare }
 {}
 
-/// Each block of an accepted program whose names have types ends, and so does each block of a program in which no call
-/// leads back to its own function.
+/// Each block of an accepted program ends, and so does each block of a program in which no call leads back to its own
+/// function.
 pub fn no_block_is_endless()
     ensures accepted { NoBlockIsEndless }
     ensures by_calls { EndsWhereCallsEnd }

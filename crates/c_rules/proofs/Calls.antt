@@ -7,7 +7,7 @@ use Rattle.c_rules.specs.Effects.{Called}
 use Rattle.c_rules.specs.Sequencing.{DoneIn, Text, is_number, own_calls, with_body, with_bodies, reached, called_in, is_among, leads_back, broken_by, text_of, done_in_text}
 use Rattle.c_rules.specs.Accepted.{given_of}
 use Rattle.c_rules.specs.Laws.{IsOfLowerRank, CallsDescend}
-use Rattle.c_rules.proofs.Typed.{first_empty, second_empty}
+use Rattle.c_rules.proofs.Empty.{first_empty, second_empty}
 use Rattle.c_rules.proofs.Ranks.{In, in_some, in_which, rank, descends}
 
 -- ---- lists
@@ -94,4 +94,4 @@ module _ (x : Text) where
 pub calls_descend : CallsDescend
 calls_descend model text accepted =
     ranked (text_of (given_of model text) text.externals)
-    (λ d i. none_in (broken_by (text_of (given_of model text) text.externals)) (done_in_text (given_of model text) text.externals) d (second_empty _ _ accepted) i)
+    (λ d i. none_in (broken_by (text_of (given_of model text) text.externals)) (done_in_text (given_of model text) text.externals) d (second_empty _ _ (first_empty _ _ accepted)) i)

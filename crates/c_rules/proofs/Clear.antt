@@ -17,10 +17,11 @@ use Rattle.c_rules.specs.Recursion.{of_declarator, of_constant, of_expression, o
 use Rattle.c_rules.specs.Broken.{of_each, broken_in}
 use Rattle.c_rules.specs.Typing.{Given, meaning_at, is_assert_fail, is_text, expression_answer, answer_of}
 use Rattle.c_rules.specs.Expressions.{in_arguments, in_expression, judging}
-use Rattle.c_rules.specs.Told.{Tell}
 use Rattle.c_rules.specs.Found.{AnswerAt, token_of, answering}
 use Rattle.c_rules.proofs.Recursion.{declarator_beside, constant_beside, expression_beside, member_beside, specifier_beside, line_beside, parameter_beside, type_name_beside, declarator_rolls, constant_rolls, expression_rolls, member_rolls, specifier_rolls, line_rolls, parameter_rolls, type_name_rolls}
-use Rattle.c_rules.proofs.Typed.{IsTyped, AllTyped, nothing_typed, first_empty, second_empty, typed_both, typed_one, answer_beside, of_node, typed_node}
+use Rattle.c_rules.proofs.Told.{Tell}
+use Rattle.c_rules.proofs.Empty.{first_empty, second_empty}
+use Rattle.c_rules.proofs.Typed.{IsTyped, AllTyped, nothing_typed, typed_both, typed_one, answer_beside, of_node, typed_node}
 
 -- ---- lists
 

@@ -26,7 +26,7 @@ use Rattle.c_rules.specs.Expressions.{judging, broken_value, broken_declarator, 
 use Rattle.c_rules.specs.Initialisers.{declared_pairs, broken_declaration}
 use Rattle.c_rules.specs.Statements.{Near, Judged, item_pairs, statement_pairs, branch_pairs, judge_item, start_pairs, broken_external}
 use Rattle.c_rules.specs.Found.{Look, found_in_declaration, found_in_start, item_found, statement_found, branch_found, found_in_item, found_in_external}
-use Rattle.c_rules.proofs.Typed.{first_empty, second_empty}
+use Rattle.c_rules.proofs.Empty.{first_empty, second_empty}
 
 module _ {X : Type 0} (P : List X → Type 0) (none : P []) (joins : (xs ys : List X) → P xs → P ys → P (xs ++ ys)) (g : Given) (look : Look X)
     (expressions : (f : Typed → Answer) (x : Expression) → broken_value g x f ≡ [] → P (look.expression x))

@@ -2,9 +2,11 @@ pub mod Calls
 pub mod Clear
 pub mod DeclarationRows
 pub mod EffectRows
+pub mod Empty
 pub mod FoundInTexts
 pub mod InitialiserRows
 pub mod Judging
+pub mod Labelling
 pub mod Least
 pub mod Meanings
 pub mod NameRows
@@ -14,6 +16,7 @@ pub mod Resolutions
 pub mod Rows
 pub mod StatementRows
 pub mod Texts
+pub mod Told
 pub mod Typed
 pub mod Typings
 pub mod Views

@@ -6,6 +6,7 @@ use Rattle.c_tree.specs.declared.statement.BlockItem.TheVariants as item
 use Rattle.c_rules.specs.WorkedStatements.{WorkedStatements}
 use Rattle.c_rules.proofs.Typings.{answer_is}
 use Rattle.c_rules.proofs.Views.{name_is_called, name_is_no_part, call_is_named, text_is_text, word_stands}
+use Rattle.c_rules.proofs.Labelling.{labels_of_item, labels_of_statement}
 use Rattle.c_rules.proofs.Judging.{expression_breaks, specifier_breaks, item_breaks, item_labels, statement_breaks, statement_labels, statement_inside, branch_breaks}
 
 pub worked_statements : WorkedStatements
@@ -18,6 +19,7 @@ worked_statements = record {
   cases = simp (item_breaks, item_labels, statement_breaks, statement_labels, statement_inside, statement.outs-Switch, statement.outs-Case, statement.outs-Empty, statement.outs-Block, item.outs-Run, expression_breaks, answer_is, tree.outs-Constant);
   case_twice = simp (item_breaks, item_labels, statement_breaks, statement_labels, statement_inside, statement.outs-Switch, statement.outs-Case, statement.outs-Empty, statement.outs-Block, item.outs-Run, expression_breaks, answer_is, tree.outs-Constant);
   case_twice_as_an_int = simp (item_breaks, item_labels, statement_breaks, statement_labels, statement_inside, statement.outs-Switch, statement.outs-Case, statement.outs-Empty, statement.outs-Block, item.outs-Run, expression_breaks, answer_is, tree.outs-Constant);
+  case_value = simp (labels_of_item, labels_of_statement, statement.outs-Switch, statement.outs-Case, statement.outs-Empty, statement.outs-Block, item.outs-Run, answer_is, tree.outs-Constant);
   default_twice = simp (item_breaks, item_labels, statement_breaks, statement_labels, statement_inside, statement.outs-Switch, statement.outs-Default, statement.outs-Empty, statement.outs-Block, item.outs-Run, expression_breaks, answer_is, tree.outs-Constant);
   case_without_a_value = simp (item_breaks, item_labels, statement_breaks, statement_labels, statement_inside, statement.outs-Switch, statement.outs-Case, statement.outs-Empty, statement.outs-Block, item.outs-Run, expression_breaks, answer_is, tree.outs-Constant, tree.outs-Binary);
   case_that_varies = simp (item_breaks, item_labels, statement_breaks, statement_labels, statement_inside, statement.outs-Switch, statement.outs-Case, statement.outs-Empty, statement.outs-Block, item.outs-Run, expression_breaks, answer_is, tree.outs-Name, tree.outs-Constant);

@@ -29,13 +29,14 @@ use Rattle.c_rules.specs.Recursion.{of_expression}
 use Rattle.c_rules.specs.Expressions.{has_type, broken_value, is_used}
 use Rattle.c_rules.specs.Initialisers.{name_at, initialised_at, Initialised, part_of, elements, members, parts_by, parts_pairs, initialiser_pairs, broken_initialiser, declared_pairs}
 use Rattle.c_rules.specs.Found.{initialiser_found, found_in_initialiser, found_in_declared, AnswerAt, answering, looking, answers_in_text, InitialiserOf, initialiser_of}
-use Rattle.c_rules.specs.Told.{Tell}
 use Rattle.c_rules.specs.Accepted.{Accepted, given_of, given_in, type_by, HasTypes}
 use Rattle.c_rules.specs.Laws.{EachHasAType, TableHasEachType, InitialisersFit}
 use Rattle.c_rules.specs.declared.program.Program.{Program}
 use Rattle.c_rules.specs.Texts.{names_of}
 use Rattle.c_rules.proofs.FoundInTexts.{text_has}
-use Rattle.c_rules.proofs.Typed.{has_answer, AllTyped, nothing_typed, first_empty, second_empty, typed_both}
+use Rattle.c_rules.proofs.Told.{Tell, accepted_tell}
+use Rattle.c_rules.proofs.Empty.{first_empty, second_empty}
+use Rattle.c_rules.proofs.Typed.{has_answer, AllTyped, nothing_typed, typed_both}
 use Rattle.c_rules.proofs.Clear.{both, declarator_clear, expression_clear, specifier_clear}
 
 module _ (g : Given) (told : Tell g.names) where
@@ -110,14 +111,15 @@ module _ (g : Given) (told : Tell g.names) where
 
 -- ---- texts
 
-pub text_clear : (model : DataModel) (tree : Tree) → Tell (names_of model tree) → Accepted model tree → AllTyped (answers_in_text (given_of model tree) tree)
-text_clear model tree told h =
+pub text_clear : (model : DataModel) (tree : Tree) → Accepted model tree → AllTyped (answers_in_text (given_of model tree) tree)
+text_clear model tree h =
     let g = given_of model tree in
+    let told = accepted_tell model tree h in
     text_has AllTyped nothing_typed typed_both g (looking (answering g)) (value_clear g told) (λ x. specifier_clear g told x false) (λ x. declarator_clear g told x false) (declared_clear g told)
-    tree.externals (second_empty (names_of model tree).broken _ (first_empty _ _ h))
+    tree.externals (second_empty (names_of model tree).broken _ (first_empty _ _ (first_empty _ _ h)))
 
 pub each_typed : EachHasAType
-each_typed model text told h = AllPass-from_list_all has_answer (answers_in_text (given_of model text) text) (text_clear model text told h).all
+each_typed model text h = AllPass-from_list_all has_answer (answers_in_text (given_of model text) text) (text_clear model text h).all
 
 -- ---- programs
 
@@ -126,8 +128,8 @@ entry entries at (Gives v) e h = (v.ctype, e)
 entry entries at (Breaks rule place) e h = cc
 entry entries at Nothing e h = cc
 
-table_of : (p : Program) → Tell p.names → HasTypes p → AllTyped (answers_in_text (given_in p) p.tree) → All (λ x. (t : CType) × (slice_get p.types.expressions x.at ≡ Some (Some t))) (answers_in_text (given_in p) p.tree)
-table_of p told types h k d less =
+table_of : (p : Program) → HasTypes p → AllTyped (answers_in_text (given_in p) p.tree) → All (λ x. (t : CType) × (slice_get p.types.expressions x.at ≡ Some (Some t))) (answers_in_text (given_in p) p.tree)
+table_of p types h k d less =
     let x = slice_index_or (answers_in_text (given_in p) p.tree) k d in
     entry p.types.expressions x.at x.answer (types k d less) (AllPass-from_list_all has_answer (answers_in_text (given_in p) p.tree) h.all k d less)
 
@@ -135,9 +137,9 @@ given_same : (p : Program) → p.names ≡ names_of p.checks.model p.tree → gi
 given_same p e = ap (λ names. record { names = names; model = p.checks.model }) (sym e)
 
 pub table_typed : TableHasEachType
-table_typed p told a =
-    table_of p told a.types
-    (subst (λ g. AllTyped (answers_in_text g p.tree)) (given_same p a.names) (text_clear p.checks.model p.tree (subst Tell a.names told) a.accepted))
+table_typed p a =
+    table_of p a.types
+    (subst (λ g. AllTyped (answers_in_text g p.tree)) (given_same p a.names) (text_clear p.checks.model p.tree a.accepted))
 
 -- ---- initialisers
 
@@ -164,4 +166,4 @@ initialisers_fit model text h =
     let g = given_of model text in
     (text_has (AllFit g) (fits_none g) (fits_both g) g (record { expression = λ x. []; specifier = λ x. []; declarator = λ x. []; declared = initialiser_of g })
     (λ f x i. fits_none g) (λ x i. fits_none g) (λ x i. fits_none g) (declared_fits g)
-    text.externals (second_empty (names_of model text).broken _ (first_empty _ _ h))).all
+    text.externals (second_empty (names_of model text).broken _ (first_empty _ _ (first_empty _ _ h)))).all

@@ -37,20 +37,11 @@ use Rattle.c_rules.specs.Broken.{of_each, broken_in}
 use Rattle.c_rules.specs.Calls.{is_some}
 use Rattle.c_rules.specs.Typing.{Given, layout_of, meaning_at, numbered_result, object_typed, object_answer, constant_answer, name_by, is_assert_fail, is_text, is_function_meaning, called_result, call_by, cast_to, sizeof_named, names_function, unary_node, named_call, call_answer, with_arguments, sequence_answer, expression_answer, answer_of}
 use Rattle.c_rules.specs.Expressions.{has_type, in_arguments, in_expression}
-use Rattle.c_rules.specs.Told.{object_tells, tells, member_tells, Tell}
+use Rattle.c_rules.specs.Told.{object_tells, tells}
 use Rattle.c_rules.specs.Found.{AnswerAt, token_of, answering}
 use Rattle.c_rules.proofs.Recursion.{expression_beside, expression_is}
+use Rattle.c_rules.proofs.Told.{member_tells, Tell}
 use Rattle.c_rules.proofs.Typings.{answer_is}
-
--- ---- lists of which both parts are empty
-
-pub first_empty : {A : Type 0} → (xs ys : List A) → xs ++ ys ≡ [] → xs ≡ []
-first_empty [] ys e = refl
-first_empty (x ∷ xs) ys e = cc
-
-pub second_empty : {A : Type 0} → (xs ys : List A) → xs ++ ys ≡ [] → ys ≡ []
-second_empty [] ys e = e
-second_empty (x ∷ xs) ys e = cc
 
 -- ---- lists of answers that are types
 

@@ -22,7 +22,6 @@ use Rattle.c_rules.specs.Found.{answers_in_text, initialisers_in_text}
 use Rattle.c_rules.specs.Initialisers.{broken_initialiser, initialised_at}
 use Rattle.c_rules.specs.Effects.{Called}
 use Rattle.c_rules.specs.Sequencing.{done_in_text}
-use Rattle.c_rules.specs.Told.{Tell}
 use Rattle.c_rules.specs.Texts.{names_of}
 use Rattle.c_rules.specs.Accepted.{Accepted, Refused, broken_pairs, given_of, given_in, IsAcceptedProgram}
 
@@ -49,13 +48,13 @@ GoesByParts = (g : Given) (x : Expression) (u : Bool) → answer_of g x u ≡ ex
 
 -- ---- types of expressions
 
--- in an accepted text each expression has a type, where no name stands for what a broken rule left without one
+-- in an accepted text each expression has a type
 abbrev pub EachHasAType : Type 0
-EachHasAType = (model : DataModel) (text : Tree) → Tell (names_of model text) → Accepted model text → All (λ x. has_type x.answer ≡ true) (answers_in_text (given_of model text) text)
+EachHasAType = (model : DataModel) (text : Tree) → Accepted model text → All (λ x. has_type x.answer ≡ true) (answers_in_text (given_of model text) text)
 
 -- and the program's table has it
 abbrev pub TableHasEachType : Type 0
-TableHasEachType = (p : Program) → Tell p.names → IsAcceptedProgram p → All (λ x. (t : CType) × (slice_get p.types.expressions x.at ≡ Some (Some t))) (answers_in_text (given_in p) p.tree)
+TableHasEachType = (p : Program) → IsAcceptedProgram p → All (λ x. (t : CType) × (slice_get p.types.expressions x.at ≡ Some (Some t))) (answers_in_text (given_in p) p.tree)
 
 -- ---- what names stand for where expressions have types
 

@@ -8,6 +8,7 @@ pub mod Expressions
 pub mod Found
 pub mod Initialisers
 pub mod KnownFunctions
+pub mod Labels
 pub mod Laws
 pub mod Looks
 pub mod Recursion

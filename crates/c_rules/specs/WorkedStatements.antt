@@ -13,7 +13,8 @@ use Rattle.c_kinds.specs.Types.{void}
 use Rattle.c_rules.specs.declared.names.Pair.{Pair}
 use Rattle.c_rules.specs.Broken.{pair}
 use Rattle.c_rules.specs.Typing.{Given}
-use Rattle.c_rules.specs.Statements.{beginning, judge_item}
+use Rattle.c_rules.specs.Statements.{beginning, judge_item, CaseLabel, OfCase}
+use Rattle.c_rules.specs.Labels.{labels_in_item}
 use Rattle.c_rules.specs.Worked.{int, means, the_object, fails_meant, x_at, number_at}
 use Rattle.c_rules.specs.WorkedDeclarations.{int_at}
 
@@ -42,6 +43,9 @@ case_at x at = statement.Case x (statement.Empty (at + 3)) at
 abbrev pub switch_of : BlockItem → BlockItem → Statement
 switch_of x y = statement.Switch (number_at 1 2) (statement.Block (x ∷ y ∷ []) 4) 0
 
+abbrev pub labels : Statement → List CaseLabel
+labels s = labels_in_item x_meant (item.Run s) None
+
 pub record WorkedStatements : Type 0 where
   -- `break;`, `while(1)break;`, `switch(1)continue;`, `switch(1)break;`
   pub break_outside : in_main x_meant (statement.Break 0) ≡ pair 0 18 ∷ []
@@ -54,6 +58,7 @@ pub record WorkedStatements : Type 0 where
   pub case_twice : in_main x_meant (switch_of (run (case_at (number_at 1 6) 5)) (run (case_at (number_at 1 10) 9))) ≡ pair 9 19 ∷ []
   -- `case 4294967297:` is 1 as an int
   pub case_twice_as_an_int : in_main x_meant (switch_of (run (case_at (number_at 1 6) 5)) (run (case_at (tree.Constant Long (pos 4294967297) 10) 9))) ≡ pair 9 19 ∷ []
+  pub case_value : labels (switch_of (run (case_at (tree.Constant Long (pos 4294967297) 6) 5)) (run (statement.Empty 9))) ≡ OfCase 5 (pos 1) ∷ []
   pub default_twice : in_main x_meant (switch_of (run (statement.Default (statement.Empty 7) 5)) (run (statement.Default (statement.Empty 11) 9))) ≡ pair 9 19 ∷ []
   -- `case 1/0:`, `case x:`
   pub case_without_a_value : in_main x_meant (switch_of (run (case_at (tree.Binary binary.Divide (number_at 1 6) (number_at 0 8) 7) 5)) (run (statement.Empty 11))) ≡ pair 6 25 ∷ []

@@ -22,8 +22,7 @@ pub fn answers_go_by_parts()
     ensures { GoesByParts }
 {}
 
-/// In an accepted text each expression has a type, and so has its place in the program's table, where no name stands for
-/// what a broken rule left without one.
+/// In an accepted text each expression has a type, and so has its place in the program's table.
 pub fn expressions_have_types()
     ensures each { EachHasAType }
     ensures in_table { TableHasEachType }
