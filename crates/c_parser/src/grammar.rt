@@ -15,7 +15,7 @@ use c_declarators::{Declarators, TypeNames};
 use c_operands::{Operands, Suffixes};
 use c_specifiers::{Constants, Members, Specifiers};
 use c_statements::Statements;
-use c_tokens::Token;
+use c_tokens::{Token, TokenKind};
 use c_tree::{
     BlockItem, Declaration, Declared, DeclaredNames, EnumConstant, Expression, MemberLine,
     Statement, TypeName,
@@ -298,13 +298,37 @@ fn statement(
 ) -> Result<Statement, Fault>
     ensures { Reads (statements.statement (kinds_of tokens.now) depth place.old) result place.new }
 {
+    if let Some(TokenKind::If | TokenKind::Switch | TokenKind::While | TokenKind::For) = place.kind(
+        tokens,
+    ) {
+        return two_levels(alloc, tokens, depth, place);
+    }
     let height = place.descend()?;
     let whole = any_statement(alloc, tokens, depth, place)?;
     Ok(place.ascend(height, whole)?)
 }
 
+/// A statement whose rule takes so much of the stack that it counts as two levels. It stands apart, so that others take less.
+#[cycle(statement)]
+#[inline(never)]
+fn two_levels(
+    alloc: Global,
+    tokens: &[Token],
+    depth: usize,
+    place: &mut Cursor,
+) -> Result<Statement, Fault>
+    ensures { Reads (statements.statement (kinds_of tokens.now) depth place.old) result place.new }
+{
+    let outer = place.descend()?;
+    let inner = place.descend()?;
+    let whole = any_statement(alloc, tokens, depth, place)?;
+    let whole = place.ascend(inner, whole)?;
+    Ok(place.ascend(outer, whole)?)
+}
+
 /// A statement, over those inside.
 #[cycle(statement)]
+#[inline(always)]
 fn any_statement(
     alloc: Global,
     tokens: &[Token],

@@ -15,6 +15,7 @@ use c_tree::{Declaration, Expression, Statement};
 use std::alloc::Global;
 
 /// A statement, over what reads its parts.
+#[inline(always)]
 pub fn statement_over<
     R: Fn(Global, &[Token], usize, u8, &mut Cursor) -> Result<Expression, Fault> + Copy,
     D: Fn(Global, &[Token], usize, &mut Cursor) -> Result<Declaration, Fault> + Copy,

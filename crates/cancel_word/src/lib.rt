@@ -4,7 +4,9 @@
 #![tactic(auto)]
 
 mod cancel;
+mod poll;
 mod view;
 mod word;
 
+pub use poll::WordPoll;
 pub use word::{Cancel, Decided, StopSeat};

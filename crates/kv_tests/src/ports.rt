@@ -1,7 +1,8 @@
-//! Files and sinks, in memory and of the system.
+//! Files and sinks, in memory and of the system, and the open gate.
 use kv_base::{NoMemory, Sequence};
 use kv_port::{
-    Call, Failing, Fault, Files, MemFiles, MemSink, NamedFile, NamedFiles, Sink, StdFiles, StdSink,
+    Call, Failing, Fault, Files, Gate, MemFiles, MemSink, NamedFile, NamedFiles, OpenGate, Sink,
+    StdFiles, StdSink, Worker,
 };
 use std::alloc::Global;
 use std::test::Fail;
@@ -141,4 +142,23 @@ fn prints(rt: HostRuntime) {
     let mut out = StdSink::new(&rt);
     assert_eq!(rt; out.write(b""), Ok(0));
     assert_eq!(rt; out.write(b"ok\n"), Ok(3));
+}
+
+// Lets each worker pass, without a step and at the last one.
+fn all_pass<G: Gate>(gate: &G) {
+    for worker in [
+        Worker::Base,
+        Worker::Forward,
+        Worker::Step,
+        Worker::Invariants,
+        Worker::Engine,
+    ] {
+        gate.pass(worker, 0);
+        gate.pass(worker, 255);
+    }
+}
+
+#[test]
+fn an_open_gate_lets_every_worker_pass() {
+    all_pass(&OpenGate);
 }

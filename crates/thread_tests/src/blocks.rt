@@ -1,6 +1,6 @@
 //! The unwinding.
-ghost use Rattle.std.specs.Prelude.{◌≡◌, ◌≤◌, ◌<◌, IfSome, IfOk, length};
-ghost use Rattle.unwind_log.specs.Seats.{IsSeatOf};
+ghost use Rattle.std.specs.Prelude.{◌≡◌, ◌≤◌, ◌<◌, IfSome, IfOk, OnOk, length};
+ghost use Rattle.unwind_log.specs.Seats.{IsSeatOf, known_after};
 
 use kv_base::{Copied, NoMemory, Sequence};
 use kv_clause::{Block, Blocks, Clause, Clauses, Lit, Template, clauses_are_below, shift};
@@ -91,6 +91,38 @@ fn two_threads_read_block_3(rt: HostRuntime) -> Result<(), Fail> {
     assert!(rt; one.is_some_and(|block| block.index == 3 && block.clauses == want));
     assert!(rt; two.is_some_and(|block| block.index == 3 && block.clauses == want));
     assert_eq!(rt; unwinding.template().vars, 10);
+    Ok(())
+}
+
+/// Whether two blocks that a seat reads, one after another, are as they should be. The seat then knows both.
+fn reads_both(
+    unwinding: &Unwinding,
+    seat: &mut UnwindSeat,
+    one: &Block,
+    two: &Block,
+) -> Result<bool, NoMemory>
+    requires one { one.now.index < length unwinding.now.cells.items }
+    requires two { two.now.index < length unwinding.now.cells.items }
+    requires seat { IsSeatOf unwinding.now seat.old }
+    ensures seat { IsSeatOf unwinding.now seat.new }
+    ensures known { OnOk result (seat.new.known ≡ known_after two.now.index (known_after one.now.index seat.old.known)) }
+{
+    let first = seat.block(unwinding, one.index)?.clauses == one.clauses;
+    let second = seat.block(unwinding, two.index)?.clauses == two.clauses;
+    Ok(first && second)
+}
+
+#[test]
+fn a_seat_reads_one_block_after_another(rt: HostRuntime) -> Result<(), Fail> {
+    let alloc = rt.alloc();
+    let t = template(alloc, &rt)?;
+    let (three, zero) = (shift(alloc, &t, 3)?, shift(alloc, &t, 0)?);
+    let unwinding = Unwinding::new(alloc, t, 10)?;
+    let mut seat = unwinding.seat()?;
+    assert!(rt; reads_both(&unwinding, &mut seat, &three, &zero)?);
+    assert!(rt; reads_both(&unwinding, &mut seat, &zero, &three)?);
+    assert_eq!(rt; seat.known().as_slice(), [3, 0].as_slice());
+    assert_eq!(rt; seat.built(), 2);
     Ok(())
 }
 

@@ -1,9 +1,10 @@
 //! The cancel word.
-ghost use Rattle.std.specs.Prelude.{ℕ, ◌≡◌, ◌≤◌, ◌<◌, ◌^◌, true, false, All, IfOk};
+ghost use Rattle.std.specs.Prelude.{ℕ, ◌≡◌, ◌≤◌, ◌<◌, ◌^◌, true, false, All, IfOk, IsTrue};
 ghost use Rattle.cancel_word.specs.Word.{has};
 ghost use Rattle.cancel_word.specs.Seats.{IsOf, view_of};
 
-use cancel_word::{Cancel, Decided, StopSeat};
+use cancel_word::{Cancel, Decided, StopSeat, WordPoll};
+use sat_core::Poll;
 use std::alloc::{AllocError, Global};
 use std::test::Fail;
 use std::thread;
@@ -27,6 +28,45 @@ fn a_word_that_nobody_sets_stays_0(rt: HostRuntime) -> Result<(), Fail> {
     let (word, mut seat) = Cancel::new(rt.alloc(), 5)?;
     assert!(rt; !word.is_set(&mut seat));
     assert_eq!(rt; word.close(seat), 0);
+    Ok(())
+}
+
+/// Whether a poll says yes, as what takes long asks it.
+fn asked<P: Poll>(poll: &mut P) -> bool
+    requires { P.ready poll.old }
+    ensures ready { P.ready poll.new }
+    ensures held { P.held poll.new ≡ P.held poll.old }
+    ensures yes { IsTrue result → 0 < P.yeses poll.new }
+{
+    poll.stop()
+}
+
+/// Whether a poll over the word says yes. The seat keeps what it was made with, and has then seen the word set.
+fn is_stopped(word: &Cancel, seat: &mut StopSeat) -> bool
+    requires { IsOf word.now seat.old }
+    ensures seat { IsOf word.now seat.new }
+    ensures own { seat.new.own ≡ seat.old.own }
+    ensures numbers { (view_of seat.new).numbers ≡ (view_of seat.old).numbers }
+    ensures decided { (view_of seat.new).decided ≡ (view_of seat.old).decided }
+    ensures seen { IsTrue result → (view_of seat.new).seen ≡ true }
+{
+    let mut poll = WordPoll::new(word, seat);
+    asked(&mut poll)
+}
+
+#[test]
+fn a_poll_follows_the_word(rt: HostRuntime) -> Result<(), Fail> {
+    let (word, mut first) = Cancel::new(rt.alloc(), 2)?;
+    let mut second = word.split(&mut first, 0);
+    let mut poll = WordPoll::new(&word, &mut first);
+    assert!(rt; !poll.stop());
+    assert!(rt; word.stop(&mut second, &Decided { at: 3 }));
+    assert!(rt; poll.stop());
+    assert!(rt; asked(&mut poll));
+    assert!(rt; is_stopped(&word, &mut second));
+    assert!(rt; is_stopped(&word, &mut first));
+    word.join(&mut first, second);
+    assert_eq!(rt; word.close(first), 1);
     Ok(())
 }
 

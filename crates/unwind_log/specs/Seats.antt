@@ -1,5 +1,5 @@
 -- What a seat of an unwinding knows.
-use Rattle.std.specs.Prelude.{Option, None, ◌≡◌, ℕ, Bool, true, false, ◌||◌, ◌==◌, if◌then◌else◌, List, [], ◌∷◌, ◌++◌, IsSomeAnd, MatchOption, slice_get, length, Some}
+use Rattle.std.specs.Prelude.{Option, None, ◌≡◌, ℕ, ◌+◌, ◌-◌, ◌^◌, min, Bool, true, false, ◌||◌, ◌==◌, if◌then◌else◌, List, [], ◌∷◌, ◌++◌, IsSomeAnd, MatchOption, slice_get, length, Some}
 use Rattle.std.specs.declared.alloc.Global.{Global}
 use Rattle.once_cell.specs.Once.{cell_name}
 use Rattle.kv_clause.specs.Blocks.{block_at}
@@ -17,6 +17,10 @@ has n (m ∷ ms) = (m == n) || has n ms
 -- what a seat knows once it has met block i
 abbrev pub known_after : ℕ → List ℕ → List ℕ
 known_after i known = if has i known then known else (known ++ i ∷ [])
+
+-- one more block that a seat built, a count that stays at its last value
+abbrev pub counted : ℕ → ℕ
+counted built = min (built + 1) (2 ^ 32 - 1)
 
 -- A place knows the name of its cell. Once the block was met, the cell's value or the seat's own block is the block.
 pub record Fits (t : Template) (known : List ℕ) (i : ℕ) (cell : Global × ℕ) (place : Place) : Type 0 where

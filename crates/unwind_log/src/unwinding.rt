@@ -1,8 +1,8 @@
-ghost use Rattle.std.specs.Prelude.{ℕ, ◌≡◌, ◌≢◌, ◌≤◌, ◌<◌, true, [], length, IfOk, OnOk, OnErr, IsOk, IsSome, IsSomeAnd, Some, MatchOption, ⊤};
+ghost use Rattle.std.specs.Prelude.{ℕ, ◌≡◌, ◌≢◌, ◌≤◌, ◌<◌, ◌+◌, true, [], length, IfOk, OnOk, OnErr, IsOk, IsSome, IsSomeAnd, Some, MatchOption, ⊤};
 ghost use Rattle.std.specs.Borrow.{sem};
 ghost use Rattle.once_cell.specs.Once.{cell_name};
 ghost use Rattle.kv_clause.specs.Blocks.{block_at};
-ghost use Rattle.unwind_log.specs.Seats.{has, known_after, own_of, Fits as FitsPlace, IsSeatOf};
+ghost use Rattle.unwind_log.specs.Seats.{has, known_after, counted, own_of, Fits as FitsPlace, IsSeatOf};
 ghost use Rattle.unwind_log.specs.Ends.{Met, EndsMet};
 
 use crate::cells::{Indices, Place, UnwindSeat, Unwinding};
@@ -67,7 +67,7 @@ impl Unwinding {
         ensures value { IfOk result (λ b. b.now ≡ block_at self.now.template i) }
         ensures free { has i seat.old.known ≡ true → IsOk result }
     {
-        lend(seat, self, i)
+        seat.block(self, i)
     }
 
     /// Lets the seat meet block `i`, and gives the cell's where that is the right one.
@@ -107,6 +107,8 @@ impl Unwinding {
         ensures known { OnOk result (known.new ≡ known_after i known.old) }
         ensures unknown { OnErr result (known.new ≡ known.old) }
         ensures built { has i known.old ≡ true → built.new ≡ built.old }
+        ensures least { built.old ≤ built.new }
+        ensures most { built.new ≤ built.old + 2 }
         ensures value { IfOk result (λ o. MatchOption o (IsSomeAnd place.new.own (λ b. b ≡ block_at self.now.template i)) (λ b. b.now ≡ block_at self.now.template i)) }
         ensures free { has i known.old ≡ true → IsOk result }
     {
@@ -142,6 +144,8 @@ impl Unwinding {
         requires cell { note.old.cell ≡ cell_name cell.now }
         ensures cell { note.new.cell ≡ note.old.cell }
         ensures value { IfOk result (λ b. note.new.known ≡ Some b.now) }
+        ensures least { built.old ≤ built.new }
+        ensures most { built.new ≤ built.old + 1 }
     {
         if let Some(block) = cell.get_as(note) {
             return Ok(block);
@@ -157,7 +161,11 @@ impl Unwinding {
     /// Builds block `i`, and counts it.
     fn build(&self, built: &mut u32, i: u32) -> Result<Block, NoMemory>
         requires { i ≤ 255 }
-        ensures { IfOk result (λ b. b ≡ block_at self.now.template i) }
+        ensures block { IfOk result (λ b. b ≡ block_at self.now.template i) }
+        ensures counted { OnOk result (built.new ≡ counted built.old) }
+        ensures uncounted { OnErr result (built.new ≡ built.old) }
+        ensures least { built.old ≤ built.new }
+        ensures most { built.new ≤ built.old + 1 }
     {
         let made = shift(self.alloc, &self.template, i)?;
         *built = built.saturating_add(1);
@@ -165,20 +173,19 @@ impl Unwinding {
     }
 }
 
-/// Block `i`, with the seat that is lent as the first parameter.
-fn lend<'a>(
-    seat: &'a mut UnwindSeat,
-    unwinding: &'a Unwinding,
-    i: u32,
-) -> Result<&'a Block, NoMemory>
-    requires within { i < length unwinding.now.cells.items }
-    requires seat { IsSeatOf unwinding.now seat.old }
-    ensures* after { sem 𝓛 (EndsMet unwinding.now seat.entry i result) }
-    ensures value { IfOk result (λ b. b.now ≡ block_at unwinding.now.template i) }
-    ensures free { has i seat.old.known ≡ true → IsOk result }
-{
-    let found = unwinding.meet(seat, i)?;
-    Ok(pick(found, seat, i))
+impl UnwindSeat {
+    /// Block `i` of the unwinding of which this is a seat, as `Unwinding::block` gives it. Once the block is let go, the
+    /// seat knows it and all that it knew before, and has built at most two blocks more.
+    pub fn block<'a>(&'a mut self, unwinding: &'a Unwinding, i: u32) -> Result<&'a Block, NoMemory>
+        requires within { i < length unwinding.now.cells.items }
+        requires seat { IsSeatOf unwinding.now self.old }
+        ensures* after { sem 𝓛 (EndsMet unwinding.now self.entry i result) }
+        ensures value { IfOk result (λ b. b.now ≡ block_at unwinding.now.template i) }
+        ensures free { has i self.old.known ≡ true → IsOk result }
+    {
+        let found = unwinding.meet(self, i)?;
+        Ok(pick(found, self, i))
+    }
 }
 
 /// The block that was found, or else the seat's own.

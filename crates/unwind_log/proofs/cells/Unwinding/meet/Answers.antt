@@ -21,6 +21,8 @@ returns-clause-met c = (
   c.meet_place.ensures.known,
   c.meet_place.ensures.unknown,
   c.meet_place.ensures.built,
+  c.meet_place.ensures.least,
+  c.meet_place.ensures.most,
 )
 
 pub returns-clause-value : goal.returns-clause-value

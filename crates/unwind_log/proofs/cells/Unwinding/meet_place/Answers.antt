@@ -29,5 +29,5 @@ pub returns-clause-place : goal.returns-clause-place
 returns-clause-place c = record {
   cell_is = c.find.ensures.cell ∙ c.requires.place.cell_is;
   met_is = sym (ap (has c.args.i) c.in_ok-push-2.ensures.ok ∙ has-push c.args.i c.args.known.now);
-  value_is = λ _. c.in_ok-own.ensures;
+  value_is = λ _. c.in_ok-own.ensures.block;
 }
