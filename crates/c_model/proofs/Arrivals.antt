@@ -27,7 +27,7 @@ takes : (kind : IntType) (go : ℤ → State) (given : List ℕ) (taken : List �
 takes kind go [] taken d e = absurd (cc)
 takes kind go (n ∷ ns) taken d e = (wrap_of kind (pos n), wraps kind (pos n), next_is (go (wrap_of kind (pos n))) (record { given = ns; taken = taken ++ wrap_of kind (pos n) ∷ [] }) d e)
 
-leads : (p : Program) (m : Move) (feed : Feed) (d : Configuration) → answered p m feed ≡ Next d → Leads m d.state
+pub leads : (p : Program) (m : Move) (feed : Feed) (d : Configuration) → answered p m feed ≡ Next d → Leads m d.state
 leads p (Goes next) feed d e = next_is next feed d e
 leads p (Unmet kind at next) feed d e = absurd (fails_never (checks p).goal kind (line_at p at) d e)
 leads p (Forks true if_so if_not) feed d e = inl (next_is if_so feed d e)
@@ -38,7 +38,7 @@ leads p Stops feed d e = absurd (cc)
 
 -- ---- blocks and arrivals
 
-run_on : (p : Program) (c d e : State) → BareRun p c d → BareRun p d e → BareRun p c e
+pub run_on : (p : Program) (c d e : State) → BareRun p c d → BareRun p d e → BareRun p c e
 run_on p _ _ e (here c) more = more
 run_on p _ _ e (onward c d f step run) more = onward c d e step (run_on p d f e run more)
 

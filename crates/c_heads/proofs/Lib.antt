@@ -1,0 +1,17 @@
+pub mod Numbers
+pub mod Pointers
+pub mod Conversions
+pub mod Cells
+pub mod Stores
+pub mod Layouts
+pub mod Moving
+pub mod Handing
+pub mod Reading
+pub mod Evaluating
+pub mod Values
+pub mod Calling
+pub mod Placing
+pub mod Running
+pub mod Leaving
+pub mod Heads
+pub mod Arriving

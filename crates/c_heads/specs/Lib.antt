@@ -1,0 +1,5 @@
+pub mod Typed
+pub mod Waiting
+pub mod Controls
+pub mod Sound
+pub mod Laws

@@ -1,0 +1,13 @@
+//! What is known at a place in a text: the declarations in scope, by the hash of their names, and what goes with them.
+#![tactic(auto)]
+
+mod entries;
+mod name_set;
+mod number_set;
+mod scopes;
+mod state;
+
+pub use name_set::NameSet;
+pub use number_set::NumberSet;
+pub use scopes::{BlockEntries, Scopes};
+pub use state::{Block, State};
