@@ -15,7 +15,7 @@ use c_declarators::{Declarators, TypeNames};
 use c_operands::{Operands, Suffixes};
 use c_specifiers::{Constants, Members, Specifiers};
 use c_statements::Statements;
-use c_tokens::{Token, TokenKind};
+use c_tokens::Token;
 use c_tree::{
     BlockItem, Declaration, Declared, DeclaredNames, EnumConstant, Expression, MemberLine,
     Statement, TypeName,
@@ -298,20 +298,15 @@ fn statement(
 ) -> Result<Statement, Fault>
     ensures { Reads (statements.statement (kinds_of tokens.now) depth place.old) result place.new }
 {
-    if let Some(TokenKind::If | TokenKind::Switch | TokenKind::While | TokenKind::For) = place.kind(
-        tokens,
-    ) {
-        return two_levels(alloc, tokens, depth, place);
-    }
     let height = place.descend()?;
     let whole = any_statement(alloc, tokens, depth, place)?;
     Ok(place.ascend(height, whole)?)
 }
 
-/// A statement whose rule takes so much of the stack that it counts as two levels. It stands apart, so that others take less.
+/// A statement inside one that chooses or repeats, which counts as three levels, since its rule takes more of the stack
+/// than others.
 #[cycle(statement)]
-#[inline(never)]
-fn two_levels(
+fn controlled(
     alloc: Global,
     tokens: &[Token],
     depth: usize,
@@ -321,14 +316,13 @@ fn two_levels(
 {
     let outer = place.descend()?;
     let inner = place.descend()?;
-    let whole = any_statement(alloc, tokens, depth, place)?;
+    let whole = statement(alloc, tokens, depth, place)?;
     let whole = place.ascend(inner, whole)?;
     Ok(place.ascend(outer, whole)?)
 }
 
 /// A statement, over those inside.
 #[cycle(statement)]
-#[inline(always)]
 fn any_statement(
     alloc: Global,
     tokens: &[Token],
@@ -349,7 +343,7 @@ fn any_statement(
         declaration,
         statement,
     };
-    statement_over(inside, place)
+    statement_over(inside, controlled, place)
 }
 
 /// The items of a block, to its `}`.
