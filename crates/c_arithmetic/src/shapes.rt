@@ -9,7 +9,7 @@ use kv_num::IntType;
 use std::alloc::Global;
 
 /// The outermost part of a type that has no derivation.
-pub(crate) fn base_shape(base: Base) -> Shape
+pub fn base_shape(base: Base) -> Shape
     ensures { result ≡ spec.base_shape base }
 {
     match base {
@@ -21,7 +21,7 @@ pub(crate) fn base_shape(base: Base) -> Shape
 }
 
 /// The outermost part of a type with these derivations.
-fn shape_by(derived: &[Derivation], base: Base) -> Shape
+pub fn shape_by(derived: &[Derivation], base: Base) -> Shape
     ensures { result ≡ spec.shape_by derived.now base }
 {
     match derived {

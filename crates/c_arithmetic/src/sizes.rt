@@ -76,19 +76,26 @@ fn base_cells(structs: &[Struct], base: Base) -> u64
     }
 }
 
-/// How many cells an object of the type has, or the greatest `u64` where there are more.
+/// How many cells an object of a type with these derivations has, or the greatest `u64` where there are more.
 #[tactic(auto, using(crate::proofs::Counts::count_step))]
-pub fn cell_count(structs: &[Struct], ctype: &CType) -> u64
-    ensures { result ≡ min (spec.cell_count structs.now ctype.now) u64.MAX }
+pub fn cells_by(structs: &[Struct], derived: &[Derivation], base: Base) -> u64
+    ensures { result ≡ min (spec.cells_by structs.now derived.now base) u64.MAX }
 {
     let mut count = 1u64;
-    for derivation in ctype.derived.as_slice() {
+    for derivation in derived {
         match derivation {
             Derivation::Pointer { .. } => return count,
             Derivation::Array { length } => count = count.saturating_mul(*length),
         }
     }
-    count.saturating_mul(base_cells(structs, ctype.base))
+    count.saturating_mul(base_cells(structs, base))
+}
+
+/// How many cells an object of the type has, or the greatest `u64` where there are more.
+pub fn cell_count(structs: &[Struct], ctype: &CType) -> u64
+    ensures { result ≡ min (spec.cell_count structs.now ctype.now) u64.MAX }
+{
+    cells_by(structs, ctype.derived.as_slice(), ctype.base)
 }
 
 /// How many cells an object has, of a type if it has one, or the greatest `u64` where there are more.

@@ -1,2 +1,5 @@
 pub mod Entries
+pub mod Firsts
 pub mod Flags
+pub mod Keys
+pub mod Tables

@@ -2,7 +2,11 @@
 #![tactic(auto)]
 
 mod entries;
+mod first_places;
+mod keys;
+mod meanings;
 mod name_set;
+mod name_table;
 mod number_set;
 mod scopes;
 mod state;
@@ -10,4 +14,4 @@ mod state;
 pub use name_set::NameSet;
 pub use number_set::NumberSet;
 pub use scopes::{BlockEntries, Scopes};
-pub use state::{Block, State};
+pub use state::{Block, State, function_declared};

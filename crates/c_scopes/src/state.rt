@@ -1,19 +1,24 @@
 //! What is known at a place in a text.
 
-ghost use Rattle.std.specs.Prelude.{◌≡◌, ◌<◌, length, IfOk, OnOk};
+ghost use Rattle.std.specs.Prelude.{◌≡◌, ◌<◌, ◌||◌, Some, length, IfOk, OnOk};
 ghost use Rattle.std.specs.Option.{option_copied};
-ghost use Rattle.c_rules.specs.declared.names.Meaning.{Meaning as Stands};
+ghost use Rattle.c_kinds.specs.Layouts.{has_const, member_in, members_of};
+ghost use Rattle.c_kinds.specs.Types.{signature_number};
+ghost use Rattle.c_rules.specs.Calls.{is_some};
 ghost use Rattle.c_rules.specs.Scopes as spec;
 ghost use Rattle.c_rules.specs.Texts as text;
 ghost use Rattle.c_rules.specs.Declarations as declaration;
 ghost use Rattle.c_rules.specs.Tags as tags;
 ghost use Rattle.c_rules.specs.Declarators as declarator;
+ghost use Rattle.c_scopes.specs.Tables.{cells_after};
 
+use crate::name_table::NameTable;
 use crate::{BlockEntries, NameSet, NumberSet, Scopes};
-use c_kinds::Struct;
+use c_arithmetic::{cell_count, has_const};
+use c_kinds::{CType, Member, Signature, Struct};
 use c_rules::{Declares, Function, Meaning, Names, Object, Pair, Pairs, ScopeEntry};
 use c_tokens::DataModel;
-use kv_base::{Bytes, Copied, NoMemory, Sequence};
+use kv_base::{Bytes, Copied, NoMemory};
 use std::alloc::Global;
 use std::marker::Model;
 
@@ -36,7 +41,7 @@ impl Model for Block {
 #[derive(Drop)]
 pub struct State {
     alloc: Global,
-    names: Names,
+    names: NameTable,
     ordinary: Scopes,
     tags: Scopes,
     linked: Scopes,
@@ -71,32 +76,6 @@ impl Model for State {
     } };
 }
 
-/// What the names of an empty text stand for.
-fn no_names(alloc: Global) -> Names
-    ensures { result ≡ text.no_names }
-{
-    Names {
-        meanings: Sequence::new(alloc),
-        objects: Sequence::new(alloc),
-        functions: Sequence::new(alloc),
-        structs: Sequence::new(alloc),
-        signatures: Sequence::new(alloc),
-        broken: Sequence::new(alloc),
-    }
-}
-
-/// A struct whose members follow.
-fn no_members(alloc: Global) -> Struct
-    ensures { result ≡ tags.new_members }
-{
-    Struct {
-        members: Sequence::new(alloc),
-        completed_at: None,
-        cells: 0,
-        has_const: false,
-    }
-}
-
 impl State {
     /// At the beginning of a text whose file defines these objects. It takes no memory.
     pub fn new(alloc: Global, model: DataModel, defined: NameSet) -> State
@@ -104,7 +83,7 @@ impl State {
     {
         State {
             alloc,
-            names: no_names(alloc),
+            names: NameTable::new(alloc),
             ordinary: Scopes::new(alloc),
             tags: Scopes::new(alloc),
             linked: Scopes::new(alloc),
@@ -119,11 +98,32 @@ impl State {
         }
     }
 
+    /// What its lists are allocated by.
+    pub fn alloc(&self) -> Global {
+        self.alloc
+    }
+
     /// What the names stand for so far.
     pub fn names(&self) -> &Names
         ensures { result.now ≡ self.now.names }
     {
-        &self.names
+        self.names.names()
+    }
+
+    /// What the names stand for at the end of a text.
+    pub fn into_names(self) -> Names
+        ensures { result ≡ self.names }
+    {
+        let State { names, .. } = self;
+        names.into_names()
+    }
+
+    /// The names that the file has defined as objects (6.9.2).
+    pub fn into_defines(self) -> NameSet
+        ensures { result ≡ self.defines }
+    {
+        let State { defines, .. } = self;
+        defines
     }
 
     pub fn model(&self) -> DataModel
@@ -248,14 +248,14 @@ impl State {
     pub fn note_all(&mut self, pairs: Pairs) -> Result<(), NoMemory>
         ensures { OnOk result (self.new ≡ spec.note_all pairs self.old) }
     {
-        self.names.broken.append(pairs)
+        self.names.note_all(pairs)
     }
 
     /// A rule is broken at a token.
     pub fn note(&mut self, at: usize, rule: u8) -> Result<(), NoMemory>
         ensures { OnOk result (self.new ≡ spec.note at rule self.old) }
     {
-        self.names.broken.push(Pair { at, rule })
+        self.names.note(Pair { at, rule })
     }
 
     /// A rule is broken at a token, or not.
@@ -275,7 +275,7 @@ impl State {
     pub fn mean(&mut self, at: usize, meaning: Meaning) -> Result<(), NoMemory>
         ensures { OnOk result (self.new ≡ spec.mean at meaning self.old) }
     {
-        put_at(&mut self.names.meanings, at, meaning)
+        self.names.mean(at, meaning)
     }
 
     /// Declares a name in the innermost block.
@@ -303,14 +303,14 @@ impl State {
     pub fn add_object(&mut self, object: Object) -> Result<(), NoMemory>
         ensures { OnOk result (self.new ≡ spec.with_object object self.old) }
     {
-        self.names.objects.push(object)
+        self.names.add_object(object)
     }
 
     /// Adds a function, which has the next number.
     pub fn add_function(&mut self, function: Function) -> Result<(), NoMemory>
         ensures { OnOk result (self.new ≡ declaration.with_function function self.old) }
     {
-        self.names.functions.push(function)
+        self.names.add_function(function)
     }
 
     /// Goes past a token.
@@ -337,8 +337,8 @@ impl State {
         ensures state { OnOk result (self.new ≡ (tags.new_struct tag self.old).state) }
         ensures number { IfOk result (λ number. number ≡ (tags.new_struct tag self.old).number) }
     {
-        let number = self.names.structs.len();
-        self.names.structs.push(no_members(self.alloc))?;
+        let number = self.names.names().structs.len();
+        self.names.add_struct()?;
         match tag {
             Some(tag) => self.declare_tag(tag, Declares::Struct { number })?,
             None => {}
@@ -425,6 +425,24 @@ impl State {
         }
     }
 
+    /// The body of the function of this name follows. The objects from the first one on are its parameters.
+    pub fn begin_body(&mut self, first: usize, name: Option<&Bytes>)
+        ensures { self.new ≡ text.begins_body first (option_copied name.entry) self.old }
+    {
+        let Some(name) = name else {
+            return;
+        };
+        let declared = function_declared(self.find(name.as_slice()));
+        self.labels = NameSet::new(self.alloc);
+        match declared {
+            Some(number) => {
+                self.names.own_objects(number, first);
+                self.function = Some(number);
+            }
+            None => {}
+        }
+    }
+
     /// A function's body ends.
     pub fn leave_body(&mut self)
         ensures { self.new ≡ text.ends_body self.old }
@@ -438,7 +456,7 @@ impl State {
         requires { number < length self.old.names.functions }
         ensures { self.new ≡ declaration.change_function number function self.old }
     {
-        self.names.functions.set(number, function);
+        self.names.set_function(number, function);
     }
 
     /// An object is declared again.
@@ -446,30 +464,93 @@ impl State {
         requires { number < length self.old.names.objects }
         ensures { self.new ≡ declaration.change_object number object self.old }
     {
-        self.names.objects.set(number, object);
+        self.names.set_object(number, object);
     }
 }
 
-/// Puts a meaning in a table by token number, which grows as far as that.
-fn put_at(
-    table: &mut Sequence<Option<Meaning>>,
-    at: usize,
-    meaning: Meaning,
-) -> Result<(), NoMemory>
-    ensures { OnOk result (table.new ≡ spec.put_at table.old at meaning) }
-{
-    grow(table, at)?;
-    table.set(at, Some(meaning));
-    Ok(())
+// ---- members and signatures
+impl State {
+    /// Whether the struct of this number has a member of this name.
+    pub fn has_member(&self, number: usize, name: &[u8]) -> bool
+        ensures { result ≡ is_some (member_in (members_of self.now.names.structs number) name.now) }
+    {
+        self.names.has_member(number, name)
+    }
+
+    /// The struct of this number has one more member. More cells than a number can count are want of memory.
+    pub fn add_member(
+        &mut self,
+        number: usize,
+        name: Bytes,
+        ctype: Option<CType>,
+    ) -> Result<(), NoMemory>
+        ensures { OnOk result (self.new ≡ tags.change_struct number (tags.adds_member self.old name ctype) self.old) }
+    {
+        let structs = self.names.names().structs.as_slice();
+        let Some(found) = structs.get(number) else {
+            return Ok(());
+        };
+        let cells = cells_with(structs, ctype.as_ref(), found)?;
+        let has_const = has_const_with(structs, ctype.as_ref(), found);
+        let cell = found.cells;
+        self.names
+            .add_member(number, Member { name, ctype, cell }, cells, has_const)
+    }
+
+    /// The struct of this number is complete after the last name, constant or operator so far (6.7.2.1p8).
+    pub fn complete_struct(&mut self, number: usize)
+        ensures { self.new ≡ tags.change_struct number (λ s. record s { completed_at = Some self.old.reached }) self.old }
+    {
+        if number < self.names.names().structs.len() {
+            self.names.complete_struct(number, self.reached);
+        }
+    }
 }
 
-/// A table has a row for this number, then. What isn't there is None.
-fn grow(table: &mut Sequence<Option<Meaning>>, at: usize) -> Result<(), NoMemory>
-    ensures within { OnOk result (at < length table.new) }
-    ensures same { OnOk result ((meaning : Stands) → spec.put_at table.new at meaning ≡ spec.put_at table.old at meaning) }
-{
-    while table.len() <= at {
-        table.push(None)?;
+// ---- signatures (6.7.6.3)
+impl State {
+    /// The number of a signature. Equal ones have one number; a new one has the next.
+    pub fn number_signature(&mut self, signature: Signature) -> Result<usize, NoMemory>
+        ensures state { OnOk result (self.new ≡ declarator.with_signature signature self.old) }
+        ensures number { IfOk result (λ number. number ≡ signature_number self.old.names.signatures signature) }
+    {
+        self.names.number_signature(signature)
     }
-    Ok(())
+}
+
+/// The function that a declaration declares.
+pub fn function_declared(entry: Option<&ScopeEntry>) -> Option<usize>
+    ensures { result ≡ text.function_declared (option_copied entry.entry) }
+{
+    match entry {
+        Some(entry) => match &entry.declares {
+            Declares::Function { number } => Some(*number),
+            _ => None,
+        },
+        None => None,
+    }
+}
+
+/// How many cells a struct has with one more member of this type. More than a number can count are want of memory.
+fn cells_with(structs: &[Struct], ctype: Option<&CType>, found: &Struct) -> Result<u64, NoMemory>
+    ensures { IfOk result (λ cells. cells ≡ cells_after structs.now (option_copied ctype.entry) found.now.cells) }
+{
+    let Some(ctype) = ctype else {
+        return Ok(found.cells);
+    };
+    let more = cell_count(structs, ctype);
+    if more == u64::MAX || u64::MAX - more < found.cells {
+        return Err(NoMemory);
+    }
+    Ok(found.cells + more)
+}
+
+/// Whether a struct has a `const` member, with one more member of this type.
+fn has_const_with(structs: &[Struct], ctype: Option<&CType>, found: &Struct) -> bool
+    ensures { result ≡ (found.now.has_const || declarator.holds (has_const structs.now) (option_copied ctype.entry)) }
+{
+    let Some(ctype) = ctype else {
+        return found.has_const;
+    };
+    found.has_const || has_const(structs, ctype)
 }

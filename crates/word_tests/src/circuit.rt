@@ -49,9 +49,9 @@ pub struct Circuit {
 
 /// Two words of inputs.
 #[derive(Drop)]
-struct Pair {
-    a: Word,
-    b: Word,
+pub(crate) struct Pair {
+    pub a: Word,
+    pub b: Word,
 }
 
 /// A word of new inputs.
@@ -69,7 +69,12 @@ fn inputs(alloc: Global, gates: &mut Gates, width: usize) -> Result<Word, NoMemo
 }
 
 /// Two words of new inputs, of these widths.
-fn operands(alloc: Global, gates: &mut Gates, width: usize, other: usize) -> Result<Pair, NoMemory>
+pub(crate) fn operands(
+    alloc: Global,
+    gates: &mut Gates,
+    width: usize,
+    other: usize,
+) -> Result<Pair, NoMemory>
     ensures a_len { IfOk result (λ r. length r.a ≡ width) }
     ensures b_len { IfOk result (λ r. length r.b ≡ other) }
     ensures a { IfOk result (λ r. IsWordOf gates.new r.a) }

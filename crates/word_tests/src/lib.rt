@@ -3,8 +3,12 @@
 
 mod circuit;
 #[cfg(test)]
+mod clauses;
+#[cfg(test)]
 mod gates;
 mod lanes;
+#[cfg(test)]
+mod terms;
 #[cfg(test)]
 mod tests;
 

@@ -1,0 +1,4 @@
+pub mod ArgumentLemmas
+pub mod CallRooms
+pub mod Listed
+pub mod Parts

@@ -1,0 +1,11 @@
+use Rattle.std.proofs.Common.{◌∙◌, sym}
+use Rattle.c_kinds.specs.Casts as casts
+use Rattle.c_operators.specs.Told.{layout_at}
+use Rattle.c_nodes.proofs.Parts.{used_gives}
+use Rattle.c_nodes.proofs.nodes.assigned_value.Goals as goal
+
+pub returns-in_ok-answer-in-Gives : goal.returns-in_ok-answer-in-Gives
+returns-in_ok-answer-in-Gives c =
+    let l = layout_at c.args.given.now in
+    c.in_ok-answer-in-Gives.ensures
+    ∙ sym (used_gives l c.args.value.now (λ v. casts.assign_answer l c.args.operator c.args.at c.args.x.now v) c.in-Gives.typed (sym c.in-Gives.is ∙ c.in_ok-answer.ensures))
