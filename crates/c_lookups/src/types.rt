@@ -1,6 +1,6 @@
 //! Types that are looked at, and their parts.
 
-ghost use Rattle.std.specs.Prelude.{◌≡◌, IfOk};
+ghost use Rattle.std.specs.Prelude.{◌≡◌, ◌<◌, IfOk, IsOk};
 ghost use Rattle.std.specs.Option.{option_copied};
 ghost use Rattle.c_kinds.specs.Layouts.{members_of};
 ghost use Rattle.c_kinds.specs.Types as types;
@@ -75,7 +75,8 @@ pub fn inner<'p>(ctype: TypeView<'p>) -> TypeView<'p>
 
 /// How many cells an object of the type has. Out of memory where no machine number counts them.
 pub fn cell_count(program: &Program, ctype: TypeView<'_>) -> Result<u64, NoMemory>
-    ensures { IfOk result (λ count. count ≡ spec.cell_count program.now (seen ctype.entry)) }
+    ensures value { IfOk result (λ count. count ≡ spec.cell_count program.now (seen ctype.entry)) }
+    ensures counted { spec.cell_count program.now (seen ctype.entry) < u64.MAX → IsOk result }
 {
     let count = cells_by(program.names.structs.as_slice(), ctype.derived, ctype.base);
     if count == u64::MAX {

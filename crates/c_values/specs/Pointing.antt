@@ -11,6 +11,11 @@ abbrev pub points : Scalar → Bool
 points (Inside object offset) = true
 points _ = false
 
+-- the cell of its object to which a pointer points
+abbrev pub offset_in : Scalar → ℕ
+offset_in (Inside object offset) = offset
+offset_in _ = 0
+
 -- no cell points into an object
 abbrev pub AreNoPointers : List Scalar → Type 0
 AreNoPointers cells = All (λ s. points s ≡ false) cells

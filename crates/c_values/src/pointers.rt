@@ -1,17 +1,19 @@
 //! Pointers that are moved, and elements of arrays (C11 6.5.2.1, 6.5.6).
 
-ghost use Rattle.std.specs.Prelude.{◌≡◌, ℤ, pos, ◌+ℤ◌, ◌*ℤ◌, length, Some, IfOk};
+ghost use Rattle.std.specs.Prelude.{◌≡◌, ◌<◌, ◌+◌, ◌*◌, ◌^◌, ℤ, pos, ◌+ℤ◌, ◌*ℤ◌, length, Some, IfOk, IsOk};
 ghost use Rattle.c_model.specs.declared.values.Object.{Object};
 ghost use Rattle.c_model.specs.declared.values.Outcome.TheVariants.{Unmet};
 ghost use Rattle.c_rules.specs.declared.checks.CheckKind.TheVariants.{ArrayBounds, PointerArithmetic};
 ghost use Rattle.c_model.specs.Store as spec;
+ghost use Rattle.c_values.specs.Pointing.{offset_in};
 
 use c_model::{CheckKind, Outcome, Scalar};
 use kv_base::NoMemory;
 
 /// So many cells further on in an object, without a check. Out of memory where no machine number counts them.
 pub fn further(count: u64, place: Scalar) -> Result<Scalar, NoMemory>
-    ensures { IfOk result (λ made. made ≡ spec.further count place) }
+    ensures value { IfOk result (λ made. made ≡ spec.further count place) }
+    ensures counted { offset_in place + count < 2 ^ 64 → IsOk result }
 {
     match place {
         Scalar::Inside { object, offset } => match offset.checked_add(count as usize) {
@@ -58,7 +60,8 @@ pub(crate) fn moved_from(size: u64, n: i128, end: usize, object: usize, offset: 
 /// The place of element n of an array of this length at a place, whose elements have `size` cells each (6.5.2.1p2). Out of
 /// memory where no machine number counts the cells before it.
 pub fn element(length: u64, size: u64, n: i128, array: Scalar) -> Result<Outcome, NoMemory>
-    ensures { IfOk result (λ made. made ≡ spec.element length size n array) }
+    ensures value { IfOk result (λ made. made ≡ spec.element length size n array) }
+    ensures counted { offset_in array + length * size < 2 ^ 64 → IsOk result }
 {
     if n < 0 || n >= i128::from(length) {
         return Ok(Outcome::Unmet {
